@@ -1,0 +1,3 @@
+pub mod Order
+pub mod Faults
+pub mod Kinds

@@ -1,0 +1,3 @@
+pub mod Counting
+pub mod Words
+pub mod Searches

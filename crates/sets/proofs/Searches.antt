@@ -1,13 +1,15 @@
 -- Searches that go up from a number, as loops do.
 use Prim.Native.Nat.{ℕ, zero, suc, _+_, _-_, _<_, _≤_}
-use mathlib.Core.Path.{_≡_, refl, sym, ap, _∙_}
+use mathlib.Core.Path.{_≡_, refl, sym, ap, subst, _∙_}
+use mathlib.Core.Logic.{_⊎_, inl, inr, ⊎-elim}
 use mathlib.Core.Bool.{Bool, true, false, cond}
 use native.Mathlib.Omega.{arith}
 use Rattle.std.specs.Options.{isSome}
-use Rattle.std.proofs.shelf.Tests.{true≢false}
+use Rattle.std.proofs.shelf.Tests.{true≢false, cases-order}
 use Rattle.std.specs.declared.option.Option.{Option}
 use Rattle.std.specs.declared.option.Option.the-variants.{Some, None}
 use Rattle.sets.specs.Search.{orElse, firstFrom, first, when}
+use Rattle.sets.specs.Sets.{lowestFrom}
 
 -- What is left of a search over the numbers below n, at i.
 abbrev pub left : {A : Type 0} → (ℕ → Option A) → ℕ → ℕ → Option A
@@ -60,3 +62,52 @@ when-false b x e = rw e
 pub none-is : {A : Type 0} (o : Option A) → isSome o ≡ false → o ≡ None
 none-is (Some x) e = absurd (true≢false e)
 none-is None e = refl
+
+-- what a search for the lowest number found
+pub record Found (p : ℕ → Bool) (a k i : ℕ) : Type 0 where
+  pub from : a ≤ i
+  pub below : i < a + k
+  pub holds : p i ≡ true
+  pub passed : (j : ℕ) → a ≤ j → j < i → p j ≡ false
+
+same-number : (a i : ℕ) → Some a ≡ Some i → a ≡ i
+same-number a i e = cc
+
+not-none : {A : Type 0} (a : A) → Some a ≡ None → ⊥
+not-none a e = let z : _≡_ {A = ℕ} 0 1 = cc in omega arith
+
+not-some : {A : Type 0} (a : A) → None ≡ Some a → ⊥
+not-some a e = not-none a (sym e)
+
+found-step : (p : ℕ → Bool) (a k i : ℕ) (t : Bool) → p a ≡ t → ((lowestFrom p (a + 1) k ≡ Some i) → Found p (a + 1) k i)
+    → orElse (when t a) (lowestFrom p (a + 1) k) ≡ Some i → Found p a (suc k) i
+found-step p a k i true t rest e =
+    let s : a ≡ i = same-number a i e in
+    record { from = omega arith; below = omega arith; holds = subst (λ (j : ℕ). p j ≡ true) s t; passed = λ j h l. absurd (omega arith) }
+found-step p a k i false t rest e =
+    let f = rest e in
+    record {
+      from = omega (arith, f .from);
+      below = omega (arith, f .below);
+      holds = f .holds;
+      passed = λ j h l. ⊎-elim (λ s. subst (λ (m : ℕ). p m ≡ false) s t) (λ m. f .passed j (omega arith) l) (at-or-above a j h);
+    }
+  where
+  at-or-above : (a j : ℕ) → a ≤ j → (a ≡ j) ⊎ (a < j)
+  at-or-above a j h = ⊎-elim inl (⊎-elim inr (λ l. absurd (omega arith))) (cases-order a j)
+
+pub lowest-some : (p : ℕ → Bool) (a k i : ℕ) → lowestFrom p a k ≡ Some i → Found p a k i
+unfolding firstFrom
+lowest-some p a zero i e = absurd (not-some i e)
+lowest-some p a (suc k) i e = found-step p a k i (p a) refl (lowest-some p (a + 1) k i) e
+
+none-step : (p : ℕ → Bool) (a k : ℕ) (t : Bool) → p a ≡ t → ((lowestFrom p (a + 1) k ≡ None) → (j : ℕ) → a + 1 ≤ j → j < a + 1 + k → p j ≡ false)
+    → orElse (when t a) (lowestFrom p (a + 1) k) ≡ None → (j : ℕ) → a ≤ j → j < a + suc k → p j ≡ false
+none-step p a k true t rest e j h l = absurd (not-none a e)
+none-step p a k false t rest e j h l =
+    ⊎-elim (λ s. subst (λ (m : ℕ). p m ≡ false) s t) (⊎-elim (λ m. rest e j (omega arith) (omega arith)) (λ m. absurd (omega arith))) (cases-order a j)
+
+pub lowest-none : (p : ℕ → Bool) (a k : ℕ) → lowestFrom p a k ≡ None → (j : ℕ) → a ≤ j → j < a + k → p j ≡ false
+unfolding firstFrom
+lowest-none p a zero e j h l = absurd (omega arith)
+lowest-none p a (suc k) e j h l = none-step p a k (p a) refl (lowest-none p (a + 1) k) e j h l

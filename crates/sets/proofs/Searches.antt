@@ -1,6 +1,6 @@
 -- Searches that go up from a number, as loops do.
 use Prim.Native.Nat.{ℕ, zero, suc, _+_, _-_, _<_, _≤_}
-use mathlib.Core.Path.{_≡_, refl, sym, ap, subst, _∙_}
+use mathlib.Core.Path.{_≡_, refl, sym, ap, ap₂, subst, _∙_}
 use mathlib.Core.Logic.{_⊎_, inl, inr, ⊎-elim}
 use mathlib.Core.Bool.{Bool, true, false, cond}
 use native.Mathlib.Omega.{arith}
@@ -9,7 +9,8 @@ use Rattle.std.proofs.shelf.Tests.{true≢false, cases-order}
 use Rattle.std.specs.declared.option.Option.{Option}
 use Rattle.std.specs.declared.option.Option.the-variants.{Some, None}
 use Rattle.sets.specs.Search.{orElse, firstFrom, first, when}
-use Rattle.sets.specs.Sets.{lowestFrom}
+use Rattle.sets.specs.Sets.{bit, wordOf, lowestFrom, lowest}
+use Rattle.sets.proofs.Words.{bit-word}
 
 -- What is left of a search over the numbers below n, at i.
 abbrev pub left : {A : Type 0} → (ℕ → Option A) → ℕ → ℕ → Option A
@@ -111,3 +112,13 @@ pub lowest-none : (p : ℕ → Bool) (a k : ℕ) → lowestFrom p a k ≡ None �
 unfolding firstFrom
 lowest-none p a zero e j h l = absurd (omega arith)
 lowest-none p a (suc k) e j h l = none-step p a k (p a) refl (lowest-none p (a + 1) k) e j h l
+
+-- searches that agree on their numbers
+pub first-same : {A : Type 0} (f g : ℕ → Option A) (i k : ℕ) → ((j : ℕ) → j < i + k → f j ≡ g j) → firstFrom f i k ≡ firstFrom g i k
+unfolding firstFrom
+first-same f g i zero e = refl
+first-same f g i (suc k) e = ap₂ orElse (e i (omega arith)) (first-same f g (i + 1) k (λ j h. e j (omega arith)))
+
+-- the lowest number in the word of a test
+pub lowest-word : (p : ℕ → Bool) → lowest (bit (wordOf 64 p)) 64 ≡ lowest p 64
+lowest-word p = first-same _ _ 0 64 (λ j h. ap (λ (t : Bool). when t j) (bit-word 64 p j (omega arith)))

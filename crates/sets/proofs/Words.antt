@@ -183,3 +183,8 @@ bit-not (suc n) b (suc i) h k =
     let p : 2 ^ suc n ≡ 2 ^ n * 2 = pow-suc 2 n in
     let half : (2 ^ suc n - 1 - b) / 2 ≡ 2 ^ n - 1 - b / 2 = omega arith in
     sym (bit-rest (2 ^ suc n - 1 - b) i) ∙ ap (λ (x : ℕ). bit x i) half ∙ bit-not n (b / 2) i (omega arith) (omega arith) ∙ ap not (bit-rest b i)
+
+-- the heads of a test below n, counted in a word of 64 bits
+pub count-set : (n : ℕ) (p : ℕ → Bool) → n ≤ 64 → count 64 (bit (wordOf n p)) ≡ count n p
+count-set n p h =
+    sym (ones-count 64 (wordOf n p) (lt-of-lt-of-le (word-below n p) (pow-mono h))) ∙ ones-word n p

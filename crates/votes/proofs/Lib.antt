@@ -1,0 +1,4 @@
+pub mod Records
+pub mod Breaches
+pub mod Rewrites
+pub mod Rounds

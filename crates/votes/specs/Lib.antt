@@ -1,0 +1,5 @@
+pub mod Tables
+pub mod Faults
+pub mod Rounds
+pub mod Passes
+pub mod Calls

@@ -1,0 +1,11 @@
+// A vote from the roll to its close.
+pub mod faults;
+pub mod stages;
+pub mod refusals;
+mod tables;
+mod checks;
+mod steps;
+mod enroll;
+mod open;
+mod hear;
+mod close;

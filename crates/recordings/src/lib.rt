@@ -1,0 +1,5 @@
+// Recorded votes: a vote file is read and played.
+pub mod faults;
+pub mod listing;
+mod bytes;
+mod rounds;

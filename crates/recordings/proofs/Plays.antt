@@ -1,9 +1,12 @@
 -- One record played: what the calls of the vote answered is what the file's definitions say.
-use mathlib.Core.Path.{_≡_, refl, sym, ap, ap₂, _∙_}
-use mathlib.Core.List.{List}
-use mathlib.Core.Bool.{Bool, false}
-use Prim.Native.Nat.{ℕ, _+_}
+use mathlib.Core.Path.{_≡_, refl, sym, ap, ap₂, subst, _∙_}
+use mathlib.Core.List.{List, [], _∷_, _++_}
+use mathlib.Core.Bool.{Bool, true, false, cond}
+use Prim.Native.Nat.{ℕ, zero, suc, _+_, _<_, _≤_}
 use native.Mathlib.Omega.{arith}
+use lib.Dec.{leb}
+use lib.ListN.{length, length-append}
+use Rattle.std.proofs.shelf.Tests.{le-leb, lt-leb}
 use Rattle.std.specs.declared.option.Option.{Option}
 use Rattle.std.specs.declared.option.Option.the-variants.{Some, None}
 use Rattle.sets.specs.Search.{orElse}
@@ -16,7 +19,8 @@ use Rattle.votes.specs.declared.stages.Vote.{Vote}
 use Rattle.votes.specs.Rounds.{Report, senders, after}
 use Rattle.votes.specs.Calls.{Answer, Begun, Opened, openedAs, unless, changed, openBreach, opened, hearBreach, heard, heardTable, figuresOf}
 use Rattle.votes.specs.Calls.Answer.{done, refused}
-use Rattle.recordings.specs.Files.{roundBreach, turnsAt, reportAt, playBreach, recordsAfter, figuresAfter, playedOne}
+use Rattle.recordings.specs.Files.{Located, Progress, advanced, playedRound, playedFrom, roundSize, roundBreach, turnsAt, reportAt, playBreach, recordsAfter, figuresAfter, playedOne}
+use Rattle.recordings.specs.Files.Progress.{going, ended}
 
 -- an answer without what was handed back
 abbrev pub forget : {A R : Type 0} → Answer A R → Answer A (Unit {0})
@@ -100,3 +104,74 @@ module _ {V B : Type 0} (earlier : B → B → Bool) (s : Scheme B) (v : Vote V)
     unfolding tableAs recordsAfter
     heard-table =
         ap tableAs (parts .1) ∙ ap (λ b. changed b (recordsAfter earlier s (v .n) bytes at round hs) hs) (sym (by-hearing whole (parts .0)))
+
+-- ---- one record after another
+
+module _ {B : Type 0} (earlier : B → B → Bool) (s : Scheme B) (n : ℕ) (bytes : List ℕ) where
+  pub played-end : (k at : ℕ) (p : Progress B) → length bytes ≤ at → playedFrom earlier s n bytes k at p ≡ p
+  unfolding playedFrom
+  played-end zero at p h = refl
+  played-end (suc k) at p h = let e = le-leb (length bytes) at h in rw e
+
+  pub played-more : (k at : ℕ) (p : Progress B) → at < length bytes
+      → playedFrom earlier s n bytes (suc k) at p ≡ playedFrom earlier s n bytes k (at + roundSize n) (playedRound earlier s n bytes at p)
+  unfolding playedFrom
+  played-more k at p h = let e = lt-leb (length bytes) at h in rw e
+
+  -- a fault ends the playing
+  pub played-ended : (k at : ℕ) (figures : List Figures) (fault : Located) → playedFrom earlier s n bytes k at (ended figures fault) ≡ ended figures fault
+  unfolding playedFrom
+  played-ended zero at figures fault = refl
+  played-ended (suc k) at figures fault = either (leb (length bytes) at) (played-ended k (at + roundSize n) figures fault)
+    where
+    either : (t : Bool) {x y : Progress B} → y ≡ x → cond t x y ≡ x
+    either true e = refl
+    either false e = e
+
+  -- a round that is heard, and one that is refused
+  pub round-heard : (at round : ℕ) (figures : List Figures) (hs : List (Head B)) → round ≡ length figures + 1 → playBreach earlier s n bytes at round hs ≡ None
+      → playedRound earlier s n bytes at (going figures hs) ≡ going (figures ++ (figuresAfter earlier s n bytes at round hs ∷ [])) (recordsAfter earlier s n bytes at round hs)
+  round-heard at round figures hs e none =
+      ap (λ (r : ℕ). advanced (playBreach earlier s n bytes at r hs) at figures (figuresAfter earlier s n bytes at r hs) (recordsAfter earlier s n bytes at r hs)) (sym e)
+      ∙ ap (λ b. advanced b at figures (figuresAfter earlier s n bytes at round hs) (recordsAfter earlier s n bytes at round hs)) none
+
+  pub round-refused : (at round : ℕ) (figures : List Figures) (hs : List (Head B)) (b : Breach) → round ≡ length figures + 1 → playBreach earlier s n bytes at round hs ≡ Some b
+      → playedRound earlier s n bytes at (going figures hs) ≡ ended figures (record { byte = at; breach = b })
+  round-refused at round figures hs b e broken =
+      ap (λ (r : ℕ). advanced (playBreach earlier s n bytes at r hs) at figures (figuresAfter earlier s n bytes at r hs) (recordsAfter earlier s n bytes at r hs)) (sym e)
+      ∙ ap (λ x. advanced x at figures (figuresAfter earlier s n bytes at round hs) (recordsAfter earlier s n bytes at round hs)) broken
+
+-- the loop's turns, at a vote v in which as many rounds are heard as there are figures
+module _ {V B : Type 0} (earlier : B → B → Bool) (s : Scheme B) (v : Vote V) (bytes : List ℕ) (at : ℕ) (figures : List Figures) (hs : List (Head B))
+    (counted : v .heard ≡ length figures) (inside : at < length bytes) where
+  pub record Turn (next : Begun V) (new : Figures) (table : List (Head B)) (n : ℕ) : Type 0 where
+    pub same : next .n ≡ n
+    pub more : next .heard ≡ length (figures ++ (new ∷ []))
+    pub goes : (k : ℕ) → playedFrom earlier s n bytes (suc k) at (going figures hs) ≡ playedFrom earlier s n bytes k (at + roundSize n) (going (figures ++ (new ∷ [])) table)
+
+  pub turn-heard : (next : Begun V) (new : Figures) (table : List (Head B)) → done (next, new) ≡ playedOne earlier s v bytes at hs
+      → table ≡ changed (playBreach earlier s (v .n) bytes at (v .heard + 1) hs) (recordsAfter earlier s (v .n) bytes at (v .heard + 1) hs) hs
+      → (n : ℕ) → v .n ≡ n → Turn next new table n
+  turn-heard next new table answer tables n e =
+      let both = unless-done (playBreach earlier s (v .n) bytes at (v .heard + 1) hs) (next, new) _ tt answer in
+      let told : new ≡ figuresAfter earlier s (v .n) bytes at (v .heard + 1) hs = ap (λ (x : Begun V × Figures). x .1) (both .1) in
+      let kept : table ≡ recordsAfter earlier s (v .n) bytes at (v .heard + 1) hs =
+          tables ∙ ap (λ b. changed b (recordsAfter earlier s (v .n) bytes at (v .heard + 1) hs) hs) (both .0) in
+      subst (Turn next new table) e (record {
+        same = ap (λ (x : Begun V × Figures). x .0 .n) (both .1);
+        more = ap (λ (x : Begun V × Figures). x .0 .heard) (both .1) ∙ ap (λ (k : ℕ). k + 1) counted ∙ sym (length-append figures (new ∷ []));
+        goes = λ k. played-more earlier s (v .n) bytes k at (going figures hs) inside
+          ∙ ap (playedFrom earlier s (v .n) bytes k (at + roundSize (v .n)))
+              (round-heard earlier s (v .n) bytes at (v .heard + 1) figures hs (ap (λ (k : ℕ). k + 1) counted) (both .0)
+              ∙ ap₂ (λ f t. going (figures ++ (f ∷ [])) t) (sym told) (sym kept));
+      })
+
+  pub turn-refused : (b : Breach) → refused b tt ≡ playedOne earlier s v bytes at hs → (n : ℕ) → v .n ≡ n
+      → (k : ℕ) → playedFrom earlier s n bytes (suc k) at (going figures hs) ≡ ended figures (record { byte = at; breach = b })
+  turn-refused b answer n e =
+      let broken = unless-refused (playBreach earlier s (v .n) bytes at (v .heard + 1) hs) b _ tt tt answer in
+      subst (λ (m : ℕ). (k : ℕ) → playedFrom earlier s m bytes (suc k) at (going figures hs) ≡ ended figures (record { byte = at; breach = b })) e
+        (λ k. played-more earlier s (v .n) bytes k at (going figures hs) inside
+          ∙ ap (playedFrom earlier s (v .n) bytes k (at + roundSize (v .n)))
+              (round-refused earlier s (v .n) bytes at (v .heard + 1) figures hs b (ap (λ (k : ℕ). k + 1) counted) broken)
+          ∙ played-ended earlier s (v .n) bytes k (at + roundSize (v .n)) figures (record { byte = at; breach = b }))

@@ -1,7 +1,8 @@
 -- A vote file: its records, and what playing it tells.
 use mathlib.Core.List.{List, [], _∷_, _++_, map}
 use mathlib.Core.Bool.{Bool, cond, not, _&&_, _||_}
-use Prim.Native.Nat.{ℕ, zero, suc, _+_, _*_}
+use mathlib.Core.Path.{_≡_}
+use Prim.Native.Nat.{ℕ, zero, suc, _+_, _*_, _≤_}
 use lib.Dec.{eqb, leb, ltb}
 use lib.ListN.{length, getD}
 use Rattle.std.specs.Iters.{counting}
@@ -16,12 +17,18 @@ use Rattle.heads.specs.declared.head.Head.{Head}
 use Rattle.heads.specs.declared.head.State.{State}
 use Rattle.heads.specs.declared.head.State.the-variants.{Running, Decided, Stopped}
 use Rattle.heads.specs.Rules.{Scheme}
+use Rattle.heads.specs.Rules.Scheme.{short, bitwise, split}
+use Rattle.ballots.specs.contracts.recipe.RecipeBallot.the-impl.{ghosts as recipeOrder}
+use Rattle.ballots.specs.contracts.recipe.RecipeCoded.the-impl.{ghosts as recipeCode}
+use Rattle.ballots.specs.contracts.ticket.TicketBallot.the-impl.{ghosts as ticketOrder}
+use Rattle.ballots.specs.contracts.ticket.TicketCoded.the-impl.{ghosts as ticketCode}
 use Rattle.votes.specs.declared.stages.Figures.{Figures}
 use Rattle.votes.specs.Faults.{voteBreach}
 use Rattle.votes.specs.Rounds.{Report, senders, after}
 use Rattle.votes.specs.Calls.{Answer, Begun, begunAs, unless, fresh, openBreach, hearBreach, figuresOf}
 use Rattle.votes.specs.Calls.Answer.{done, refused}
 use Rattle.votes.specs.declared.stages.HeardRound.{HeardRound}
+use Rattle.votes.specs.declared.stages.Roll.{Roll}
 use Rattle.votes.specs.declared.stages.Vote.{Vote}
 use Rattle.recordings.specs.declared.faults.RecordFault.{RecordFault}
 use Rattle.recordings.specs.declared.faults.RecordFault.the-variants as fault
@@ -29,6 +36,11 @@ use Rattle.recordings.specs.declared.faults.FileFault.{FileFault}
 use Rattle.recordings.specs.declared.listing.Outcome.{Outcome}
 use Rattle.recordings.specs.declared.listing.Outcome.the-variants as outcome
 use Rattle.recordings.specs.declared.listing.Listing.{Listing}
+use Rattle.recordings.specs.declared.kinds.Header.{Header}
+use Rattle.recordings.specs.declared.kinds.VoteKind.{VoteKind}
+use Rattle.recordings.specs.declared.kinds.VoteKind.the-variants as vote
+use Rattle.recordings.specs.declared.kinds.BallotKind.{BallotKind}
+use Rattle.recordings.specs.declared.kinds.BallotKind.the-variants as kind
 use Rattle.recordings.specs.Bytes.{number, wordsAt, marked}
 
 -- ---- faults
@@ -59,26 +71,27 @@ abbrev pub headCount : List ℕ → ℕ
 headCount bytes = getD bytes 4 0
 
 -- votes 1 to 3, kinds 1 and 2, heads 1 to 64
-abbrev pub inRange : List ℕ → Bool
-inRange bytes =
-    (leb 1 (voteByte bytes) && leb (voteByte bytes) 3)
-    && ((leb 1 (kindByte bytes) && leb (kindByte bytes) 2) && (leb 1 (headCount bytes) && leb (headCount bytes) 64))
+abbrev pub inRange : ℕ → ℕ → ℕ → Bool
+inRange v k n = (leb 1 v && leb v 3) && ((leb 1 k && leb k 2) && (leb 1 n && leb n 64))
 
 unfoldable pub headerBreach : List ℕ → Option Breach
 headerBreach bytes =
     orElse (when (ltb (length bytes) 5) (numbered 20))
     (orElse (when (not (marked 0x56 0x48 bytes 0)) (numbered 21))
-    (when (not (inRange bytes)) (numbered 22)))
+    (when (not (inRange (voteByte bytes) (kindByte bytes) (headCount bytes))) (numbered 22)))
 
 -- the code of head i
 abbrev pub codeAt : List ℕ → ℕ → ℕ
 codeAt bytes i = number 2 bytes (5 + 2 * i)
 
+-- the code of head i is no ballot's
+abbrev pub strange : {B : Type 0} → (B → ℕ) → (ℕ → B) → List ℕ → ℕ → Option Breach
+strange encoded decoded bytes i = when (not (eqb (encoded (decoded (codeAt bytes i))) (codeAt bytes i))) (numbered 1)
+
 -- all codes are there, and each is a ballot's
 unfoldable pub codesBreach : {B : Type 0} → (B → ℕ) → (ℕ → B) → List ℕ → ℕ → Option Breach
 codesBreach encoded decoded bytes n =
-    orElse (when (ltb (length bytes) (5 + 2 * n)) (numbered 20))
-    (first (λ i. when (not (eqb (encoded (decoded (codeAt bytes i))) (codeAt bytes i))) (numbered 1)) n)
+    orElse (when (ltb (length bytes) (5 + 2 * n)) (numbered 20)) (first (strange encoded decoded bytes) n)
 
 -- the heads as they are enrolled
 unfoldable pub enrolledFrom : {B : Type 0} → (ℕ → B) → List ℕ → ℕ → List (Head B)
@@ -138,6 +151,11 @@ module _ {B : Type 0} (earlier : B → B → Bool) (s : Scheme B) (n : ℕ) (byt
   playedFrom zero at p = p
   playedFrom (suc k) at p = cond (leb (length bytes) at) p (playedFrom k (at + roundSize n) (playedRound at p))
 
+-- the progress in which a fault, if there is one, ended the playing
+abbrev pub endedBy : {B : Type 0} → Option FileFault → List Figures → List (Head B) → Progress B
+endedBy None figures hs = going figures hs
+endedBy (Some f) figures hs = ended figures (fileBreach f)
+
 -- ---- what playing one record answers
 
 abbrev pub checked : {A : Type 0} → Result A RecordFault → Option Breach
@@ -179,15 +197,69 @@ abbrev pub told : {B : Type 0} → (B → ℕ) → Progress B → Played
 told encoded (ended figures fault) = record { rounds = figures; ending = Err fault }
 told encoded (going figures hs) = record { rounds = figures; ending = Ok (map (outcomeOf encoded) hs) }
 
-abbrev pub faultyHeader : Breach → Played
-faultyHeader breach = record { rounds = []; ending = Err (record { byte = 0; breach = breach }) }
-
-abbrev pub startedBy : Option Breach → Played → Played
-startedBy (Some breach) p = faultyHeader breach
+-- a fault of the header ends the playing before any round
+abbrev pub startedBy : {B : Type 0} → Option Breach → Progress B → Progress B
+startedBy (Some breach) p = ended [] (record { byte = 0; breach = breach })
 startedBy None p = p
 
--- a file of n heads with ballots of one kind, by one vote; a file has fewer rounds than bytes
-unfoldable pub playedAs : {B : Type 0} → (B → B → Bool) → (B → ℕ) → (ℕ → B) → Scheme B → ℕ → List ℕ → Played
-playedAs earlier encoded decoded s n bytes =
+-- the file of a vote of n heads by one method, with ballots of one kind; it has fewer rounds than bytes
+unfoldable pub progressOf : {B : Type 0} → (B → B → Bool) → (B → ℕ) → (ℕ → B) → Scheme B → ℕ → List ℕ → Progress B
+progressOf earlier encoded decoded s n bytes =
     startedBy (codesBreach encoded decoded bytes n)
-      (told encoded (playedFrom earlier s n bytes (length bytes) (5 + 2 * n) (going [] (enrolledFrom decoded bytes n))))
+      (playedFrom earlier s n bytes (length bytes) (5 + 2 * n) (going [] (enrolledFrom decoded bytes n)))
+
+abbrev pub playedAs : {B : Type 0} → (B → B → Bool) → (B → ℕ) → (ℕ → B) → Scheme B → ℕ → List ℕ → Played
+playedAs earlier encoded decoded s n bytes = told encoded (progressOf earlier encoded decoded s n bytes)
+
+-- ---- the whole file
+
+abbrev pub voteOf : ℕ → VoteKind
+voteOf byte = cond (eqb byte 1) vote.Short (cond (eqb byte 2) vote.Bit vote.Split)
+
+abbrev pub kindOf : ℕ → BallotKind
+kindOf byte = cond (eqb byte 1) kind.Recipe kind.Ticket
+
+abbrev pub schemeOf : {B : Type 0} → VoteKind → ℕ → (B → ℕ) → (ℕ → B) → Scheme B
+schemeOf vote.Short w encoded decoded = short
+schemeOf vote.Bit w encoded decoded = bitwise w encoded
+schemeOf vote.Split w encoded decoded = split w encoded decoded
+
+unfoldable pub playedKind : BallotKind → VoteKind → ℕ → List ℕ → Played
+playedKind kind.Recipe v n bytes =
+    playedAs (recipeOrder .earlier) (recipeCode .encoded) (recipeCode .decoded) (schemeOf v (recipeCode .width) (recipeCode .encoded) (recipeCode .decoded)) n bytes
+playedKind kind.Ticket v n bytes =
+    playedAs (ticketOrder .earlier) (ticketCode .encoded) (ticketCode .decoded) (schemeOf v (ticketCode .width) (ticketCode .encoded) (ticketCode .decoded)) n bytes
+
+abbrev pub unlessHeader : Option Breach → Played → Played
+unlessHeader (Some breach) p = record { rounds = []; ending = Err (record { byte = 0; breach = breach }) }
+unlessHeader None p = p
+
+-- what playing the bytes of a vote file tells
+unfoldable pub played : List ℕ → Played
+played bytes = unlessHeader (headerBreach bytes) (playedKind (kindOf (kindByte bytes)) (voteOf (voteByte bytes)) (headCount bytes) bytes)
+
+-- the first five bytes as they were read
+pub record Named (bytes : List ℕ) (h : Header) : Type 0 where
+  pub sound : headerBreach bytes ≡ None
+  pub vote : h .vote ≡ voteOf (voteByte bytes)
+  pub kind : h .kind ≡ kindOf (kindByte bytes)
+  pub heads : h .heads ≡ headCount bytes
+  pub some : 1 ≤ h .heads
+  pub few : h .heads ≤ 64
+  pub five : 5 ≤ length bytes
+
+abbrev pub HeaderOf : List ℕ → Result Header RecordFault → Type 0
+HeaderOf bytes (Ok h) = Named bytes h
+HeaderOf bytes (Err f) = headerBreach bytes ≡ Some (recordBreach f)
+
+-- what enrolling the n heads answers, and the table after it
+abbrev pub EnrolledOf : {B : Type 0} → (B → ℕ) → (ℕ → B) → List ℕ → ℕ → List (Head B) → Result Roll RecordFault → Type 0
+EnrolledOf encoded decoded bytes n hs (Ok roll) =
+    (roll .n ≡ n) × (first (strange encoded decoded bytes) n ≡ None) × (hs ≡ enrolledFrom decoded bytes n)
+EnrolledOf encoded decoded bytes n hs (Err f) = first (strange encoded decoded bytes) n ≡ Some (recordBreach f)
+
+-- what beginning the vote of a file answers, and the table after it
+abbrev pub StartedOf : {V B : Type 0} → (B → ℕ) → (ℕ → B) → List ℕ → ℕ → List (Head B) → Result (Vote V) RecordFault → Type 0
+StartedOf encoded decoded bytes n hs (Ok vote) =
+    (vote .n ≡ n) × (vote .heard ≡ 0) × (codesBreach encoded decoded bytes n ≡ None) × (hs ≡ enrolledFrom decoded bytes n) × (5 + 2 * n ≤ length bytes)
+StartedOf encoded decoded bytes n hs (Err f) = codesBreach encoded decoded bytes n ≡ Some (recordBreach f)

@@ -4,7 +4,15 @@ ghost use Prim.Native.Nat.{ℕ, _+_, _*_, _≤_};
 ghost use lib.ListN.{length, getD};
 ghost use mathlib.Core.List.{map};
 ghost use Rattle.std.specs.Iters.{counting};
-ghost use Rattle.recordings.specs.Bytes.{number, wordsAt};
+ghost use Rattle.recordings.specs.Bytes.{number, wordsAt, marked};
+
+// Whether the record at a place starts with those two bytes.
+pub fn is_marked(bytes: &[u8], at: usize, first: u8, second: u8) -> bool
+    requires { ⌜ at + 2 ≤ length (now bytes) ⌝ }
+    ensures { λ r. ⌜ r ≡ marked first second (now (bytes .entry)) at ⌝ }
+{
+    bytes[at] == first && bytes[at + 1] == second
+}
 
 pub fn read_u16(bytes: &[u8], at: usize) -> u16
     requires { ⌜ at + 2 ≤ length (now bytes) ⌝ }

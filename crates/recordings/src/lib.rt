@@ -2,4 +2,6 @@
 pub mod faults;
 pub mod listing;
 mod bytes;
+mod header;
+mod kinds;
 mod rounds;

@@ -1,8 +1,10 @@
-use mathlib.Core.Path.{_≡_, sym, ap, _∙_}
+use mathlib.Core.Path.{_≡_, sym, ap, subst, _∙_}
 use mathlib.Core.List.{List}
-use Prim.Native.Nat.{ℕ, _+_}
+use Prim.Native.Nat.{ℕ, _+_, _≤_}
 use lib.ListN.{length}
-use Rattle.std.proofs.shelf.Results.{err-from-errBy}
+use Rattle.std.proofs.shelf.Results.{err-from-errBy, made-from-err}
+use Rattle.std.specs.Results.{isErr}
+use Rattle.std.specs.Vec.{made}
 use Rattle.std.specs.declared.option.Option.the-variants.{None}
 use Rattle.std.specs.declared.result.Result.{Result}
 use Rattle.std.specs.declared.result.Result.the-variants.{Err}
@@ -14,7 +16,7 @@ use Rattle.votes.specs.Faults.{voteBreach}
 use Rattle.votes.specs.Calls.{begunAs, openedAs, openBreach, opened, heard, heardTable}
 use Rattle.votes.specs.Calls.Answer.{done, refused}
 use Rattle.recordings.specs.Bytes.{number, wordsAt}
-use Rattle.recordings.specs.Files.{recordBreach, roundBreach, turnsAt, reportAt, playAnswer}
+use Rattle.recordings.specs.Files.{recordBreach, roundSize, roundBreach, turnsAt, reportAt, playAnswer}
 use Rattle.recordings.proofs.Plays.{forget, unless-refused, by-record, by-opening, refused-one, refused-table, heard-one, heard-table}
 use Rattle.recordings.proofs.rounds.play_round.Needs as need
 
@@ -30,6 +32,9 @@ report-read bytes at n m words alarms stops e p q r = λ i. record { words = (p 
 erred : {V : Type 0} (r : Result (HeardRound V) RecordFault) (y f : RecordFault) → r ≡ Err y → y ≡ f → playAnswer r ≡ refused (recordBreach f) tt
 erred r y f e p = ap playAnswer e ∙ ap (λ x. refused (recordBreach x) tt) p
 
+erred-whole : {V : Type 0} (P : HeardRound V → Type 0) (r : Result (HeardRound V) RecordFault) (y : RecordFault) → r ≡ Err y → made r P
+erred-whole P r y e = made-from-err r P (ap isErr e)
+
 pub returns-in-Break-check-round : need.returns-in-Break-check-round
 returns-in-Break-check-round g c =
     let earlier = g .B·Ballot .earlier in
@@ -43,6 +48,7 @@ returns-in-Break-check-round g c =
     let broken = by-record earlier s v bytes at hs (recordBreach fault)
         (ap (roundBreach bytes at) (sym (c .pre .0)) ∙ sym (c .in-Break-check-round .ensures tt .value)) in
     record {
+      whole = erred-whole _ _ (p .0) (p .1);
       answer = erred (c .from-residual .result) (p .0) fault (p .1) (p .2) ∙ refused-one earlier s v bytes at hs (recordBreach fault) broken;
       table = refused-table earlier s v bytes at hs (recordBreach fault) broken;
     }
@@ -62,6 +68,7 @@ returns-in-Break-open g c =
     let broken = by-opening earlier s v bytes at hs (voteBreach (e .fault)) whole
         (unless-refused (openBreach (v .n) (v .heard + 1) hs (turnsAt bytes at)) (voteBreach (e .fault)) _ v (e .back) answer) in
     record {
+      whole = erred-whole _ _ (p .0) (p .1);
       answer = erred (c .from-residual-in-Break-open .result) (p .0) (fault.Vote (e .fault)) (p .1) (p .2) ∙ refused-one earlier s v bytes at hs (voteBreach (e .fault)) broken;
       table = refused-table earlier s v bytes at hs (voteBreach (e .fault)) broken;
     }
@@ -84,6 +91,7 @@ returns-in-Break-hear g c =
     let told : refused (voteBreach (e .fault)) (e .back) ≡ heard earlier s o hs (reportAt bytes at (v .n)) =
         c .in-Break-hear .ensures tt .answer ∙ ap (heard earlier s o hs) q in
     record {
+      whole = erred-whole _ _ (p .0) (p .1);
       answer = erred (c .from-residual-in-Break-hear .result) (p .0) (fault.Vote (e .fault)) (p .1) (p .2) ∙ ap forget told ∙ heard-one earlier s v bytes at hs o whole opening;
       table = c .in-Break-hear .ensures tt .table ∙ ap (heardTable earlier s o hs) q ∙ heard-table earlier s v bytes at hs o whole opening;
     }
@@ -105,6 +113,7 @@ returns g c =
     let told : done (begunAs (h .vote), h .figures) ≡ heard earlier s o hs (reportAt bytes at (v .n)) =
         c .in-Continue-hear .ensures tt .answer ∙ ap (heard earlier s o hs) q in
     record {
+      whole = subst (λ (k : ℕ). at + roundSize k ≤ length bytes) (c .pre .0) (c .in-Continue-check-round .ensures tt .whole);
       answer = ap forget told ∙ heard-one earlier s v bytes at hs o whole opening;
       table = c .in-Continue-hear .ensures tt .table ∙ ap (heardTable earlier s o hs) q ∙ heard-table earlier s v bytes at hs o whole opening;
     }

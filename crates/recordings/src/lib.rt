@@ -5,4 +5,5 @@ pub mod play;
 mod bytes;
 mod header;
 mod kinds;
+mod refusals;
 mod rounds;

@@ -48,7 +48,7 @@ pub struct Refused<T> {
 #[derive(Clone, Copy)]
 pub struct Refusal {
     pub number: u32,
-    pub round: Option<u32>,
+    pub round: Option<usize>,
     pub head: Option<usize>,
     pub other: Option<usize>,
 }

@@ -33,13 +33,13 @@ fn numbered(number: u32) -> Refusal
 fn in_round(number: u32, round: u32) -> Refusal
     ensures { λ r. ⌜ refusalBreach r ≡ inRound number round ⌝ }
 {
-    Refusal { number, round: Some(round), head: None, other: None }
+    Refusal { number, round: Some(round as usize), head: None, other: None }
 }
 
 fn at_head(number: u32, round: u32, head: usize) -> Refusal
     ensures { λ r. ⌜ refusalBreach r ≡ atHead number round head ⌝ }
 {
-    Refusal { number, round: Some(round), head: Some(head), other: None }
+    Refusal { number, round: Some(round as usize), head: Some(head), other: None }
 }
 
 impl VoteFault {
@@ -58,7 +58,7 @@ impl VoteFault {
             VoteFault::WordCount { round } => in_round(8, round),
             VoteFault::IdleStop { round, head } => at_head(9, round, head),
             VoteFault::IdleNoise { round, head } => at_head(10, round, head),
-            VoteFault::NotSender { round, head, other } => Refusal { number: 11, round: Some(round), head: Some(head), other: Some(other) },
+            VoteFault::NotSender { round, head, other } => Refusal { number: 11, round: Some(round as usize), head: Some(head), other: Some(other) },
             VoteFault::OwnUnheard { round, head } => at_head(12, round, head),
             VoteFault::AlarmMissing { round, head } => at_head(13, round, head),
             VoteFault::FalseAlarm { round, head } => at_head(14, round, head),

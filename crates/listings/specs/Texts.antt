@@ -1,44 +1,60 @@
--- The text of a listing's lines.
+-- The text of a listing.
 use mathlib.Core.List.{List, _∷_, [], _++_}
-use Prim.Native.Nat.{ℕ}
+use Prim.Native.Nat.{ℕ, _+_}
 use lib.Chars.{codes}
 use Rattle.std.specs.Written.{decimal}
 use Rattle.std.specs.declared.option.Option.{Option}
 use Rattle.std.specs.declared.option.Option.the-variants.{Some, None}
+use Rattle.std.specs.declared.result.Result.{Result}
+use Rattle.std.specs.declared.result.Result.the-variants.{Ok, Err}
 use Rattle.votes.specs.declared.stages.Figures.{Figures}
 use Rattle.recordings.specs.declared.listing.Outcome.{Outcome}
 use Rattle.recordings.specs.declared.listing.Outcome.the-variants as outcome
-use Rattle.recordings.specs.Files.{Located, fileBreach}
-use Rattle.listings.specs.declared.line.Field.{Field}
-use Rattle.listings.specs.declared.line.Line.{Line}
-use Rattle.listings.specs.declared.line.Line.the-variants.{Round, Head, Fault}
+use Rattle.recordings.specs.Files.{Located, Played}
 
--- texts with one blank between them
-abbrev pub spaced : List ℕ → List ℕ → List ℕ
-spaced a b = a ++ (32 ∷ b)
+infixl 20 _▹_
+
+-- two texts with a blank between them
+abbrev pub _▹_ : List ℕ → List ℕ → List ℕ
+a ▹ b = a ++ (32 ∷ b)
 
 -- a number, or a dash where there is none
 abbrev pub orDash : Option ℕ → List ℕ
 orDash (Some n) = decimal n
-orDash None = codes "-"
+orDash None = 45 ∷ []
 
-abbrev pub fieldText : Field → List ℕ
-fieldText f = orDash (f .0)
+-- R: round, senders, alarms, decided, running
+unfoldable pub roundLine : Figures → List ℕ
+roundLine f = (codes "R" ▹ decimal (f .round) ▹ decimal (f .senders) ▹ decimal (f .alarms) ▹ decimal (f .decided) ▹ decimal (f .running)) ++ codes "\n"
 
-abbrev pub roundText : Figures → List ℕ
-roundText f =
-    spaced (codes "R") (spaced (decimal (f .round)) (spaced (decimal (f .senders)) (spaced (decimal (f .alarms)) (spaced (decimal (f .decided)) (decimal (f .running))))))
-
+-- r, s or d, and the code of the ballot that was decided
 abbrev pub outcomeText : Outcome → List ℕ
 outcomeText outcome.Running = codes "r -"
 outcomeText outcome.Stopped = codes "s -"
-outcomeText (outcome.Decided code) = spaced (codes "d") (decimal code)
+outcomeText (outcome.Decided code) = codes "d" ▹ decimal code
 
-abbrev pub faultText : Located → List ℕ
-faultText l =
-    spaced (codes "F") (spaced (decimal (l .breach .number)) (spaced (decimal (l .byte)) (spaced (orDash (l .breach .round)) (spaced (orDash (l .breach .head)) (orDash (l .breach .other))))))
+-- H: head, outcome
+unfoldable pub headLine : ℕ → Outcome → List ℕ
+headLine i o = (codes "H" ▹ decimal i ▹ outcomeText o) ++ codes "\n"
 
-abbrev pub lineText : Line → List ℕ
-lineText (Round f) = roundText f
-lineText (Head i o) = spaced (codes "H") (spaced (decimal i) (outcomeText o))
-lineText (Fault f) = faultText (fileBreach f)
+-- F: number, byte, round, head, other
+unfoldable pub faultLine : Located → List ℕ
+faultLine l =
+    (codes "F" ▹ decimal (l .breach .number) ▹ decimal (l .byte) ▹ orDash (l .breach .round) ▹ orDash (l .breach .head) ▹ orDash (l .breach .other)) ++ codes "\n"
+
+unfoldable pub roundLines : List Figures → List ℕ
+roundLines [] = []
+roundLines (f ∷ fs) = roundLine f ++ roundLines fs
+
+-- the heads from number i on
+unfoldable pub headLines : ℕ → List Outcome → List ℕ
+headLines i [] = []
+headLines i (o ∷ os) = headLine i o ++ headLines (i + 1) os
+
+abbrev pub endLines : Result (List Outcome) Located → List ℕ
+endLines (Ok heads) = headLines 0 heads
+endLines (Err fault) = faultLine fault
+
+-- the rounds heard, and then the heads, or the fault that ended the playing
+abbrev pub listingText : Played → List ℕ
+listingText p = roundLines (p .rounds) ++ endLines (p .ending)

@@ -1,24 +1,40 @@
 // Plays a recorded vote from standard input, and prints its listing.
-use listings::line_of;
-use listings::texts::LineDisplay;
+use listings::text::text_of;
 use recordings::play::play;
 use std::error::AnyError;
-use std::io::BufWriter;
+use std::io;
+use std::io::ErrorKind;
 use std::io::Read;
 use std::io::Write;
 
-fn run(rt: &LibcRuntime) -> Result<(), AnyError> {
-    let mut bytes = Vec::new(rt.alloc());
-    rt.stdin().read_to_end(&mut bytes)?;
-    let listing = play(rt.alloc(), bytes.as_slice())?;
-    let mut out = BufWriter::new(rt.stdout());
-    for i in 0..usize::MAX {
-        let Some(line) = line_of(&listing, i) else {
-            break;
-        };
-        writeln!(out, "{line}")?;
+// The bytes of the longest recording that can be played whole: 64 heads over 10,000 rounds. Room for as many is asked
+// for at once, and only what is read is ever touched.
+const ROOM: usize = 133 + 538 * 10_000;
+
+// The whole of standard input.
+fn read_recording(rt: &LibcRuntime) -> io::Result<Vec<u8>> {
+    let mut bytes = Vec::with_capacity(rt.alloc(), ROOM)?;
+    let mut part = [0u8; 65536];
+    let mut input = rt.stdin();
+    for _ in 0..u64::MAX {
+        match input.read(&mut part) {
+            Ok(0) => break,
+            Ok(n) => bytes.extend_from_slice(&part[0..n])?,
+            Err(e) => {
+                if e.kind() != ErrorKind::Interrupted {
+                    return Err(e);
+                }
+            }
+        }
     }
-    out.flush()?;
+    Ok(bytes)
+}
+
+fn run(rt: &LibcRuntime) -> Result<(), AnyError> {
+    let bytes = read_recording(rt)?;
+    let listing = play(rt.alloc(), bytes.as_slice())?;
+    let text = text_of(rt.alloc(), &listing)?;
+    rt.stdout().write_all(text.as_slice())?;
     Ok(())
 }
 

@@ -1,11 +1,11 @@
 #!/usr/bin/env python3
 """Makes the recorded votes that the library is compared with.
 
-Writes, next to this file,
+Writes, into crates/replays,
 
-  recordings.bin  the vote files, each preceded by its length in four bytes,
-                  low byte first;
-  recordings.txt  what the model in model.c prints for them in batch mode.
+  stdin   the vote files, each preceded by its length in four bytes,
+          low byte first;
+  stdout  what the model in model.c prints for them in batch mode.
 
 Everything is fixed: two runs write the same bytes. The rules of the vote are
 written down here once more, over sets of heads and strings of bits, and the
@@ -21,6 +21,7 @@ import sys
 import tempfile
 
 HERE = os.path.dirname(os.path.abspath(__file__))
+REPLAYS = os.path.join(os.path.dirname(HERE), "crates", "replays")
 
 SHORT, BIT, SPLIT = 1, 2, 3
 VOTES = (SHORT, BIT, SPLIT)
@@ -331,15 +332,15 @@ class Script:
 
 # Airs: the senders that hearer i hears besides itself.
 
-def clear_air(dice):
+def clear_channel(dice):
     return lambda i, senders: senders
 
 
-def lossy_air(dice, p=60):
+def lossy_channel(dice, p=60):
     return lambda i, senders: dice.some_of(senders, p)
 
 
-def capture_air(dice):
+def capture_channel(dice):
     position = [dice.below(1000) for _ in range(64)]
 
     def heard(i, senders):
@@ -350,10 +351,10 @@ def capture_air(dice):
     return heard
 
 
-AIRS = {"clear": clear_air, "lossy": lossy_air, "capture": capture_air}
+CHANNELS = {"clear": clear_channel, "lossy": lossy_channel, "capture": capture_channel}
 
 
-def wild_round(script, dice, air, extra, stopping, turns):
+def wild_round(script, dice, channel, extra, stopping, turns):
     """A round of uncertain reception: due alarms, extra ones, stops."""
     vote = script.vote
     running = vote.running()
@@ -372,7 +373,7 @@ def wild_round(script, dice, air, extra, stopping, turns):
         if i not in running:
             words.append(set())
             continue
-        word = set(air(i, senders)) | ({i} & senders)
+        word = set(channel(i, senders)) | ({i} & senders)
         words.append(word)
         may = vote.method != SPLIT or len(word) < c
         if vote.due(c, len(word)) or (may and dice.percent(extra)):
@@ -380,10 +381,10 @@ def wild_round(script, dice, air, extra, stopping, turns):
     script.hear(chosen, words, alarms, dice.some_of(running, stopping))
 
 
-def wild_rounds(script, dice, air, count, extra=10, stopping=0, turns="some"):
+def wild_rounds(script, dice, channel, count, extra=10, stopping=0, turns="some"):
     for _ in range(count):
         if script.vote.running():
-            wild_round(script, dice, air, extra, stopping, turns)
+            wild_round(script, dice, channel, extra, stopping, turns)
 
 
 def calm_to_the_end(script):
@@ -539,13 +540,13 @@ SIZES = (1, 2, 3, 5, 8, 12, 33, 63, 64)
 
 
 def add_votes(cat):
-    """Whole votes: every method, kind, size and air, most of them decided."""
+    """Whole votes: every method, kind, size and channel, most of them decided."""
     dice = Dice(2)
     for method in VOTES:
         for kind in KINDS:
             for n in SIZES:
-                # one air is enough for 63 heads: these files are large
-                names = sorted(AIRS)
+                # one channel is enough for 63 heads: these files are large
+                names = sorted(CHANNELS)
                 if n == 63:
                     names = [names[(method + kind) % 3]]
                 for name in names:
@@ -554,8 +555,8 @@ def add_votes(cat):
                     stopping = dice.one_of((0, 0, 2, 5))
                     turns = dice.one_of(("all", "some", "lone"))
                     wild = {SHORT: 6, BIT: WIDTH[kind] + 2, SPLIT: 8}[method]
-                    air = AIRS[name](dice)
-                    wild_rounds(s, dice, air, wild, 10, stopping, turns)
+                    channel = CHANNELS[name](dice)
+                    wild_rounds(s, dice, channel, wild, 10, stopping, turns)
                     calm_to_the_end(s)
                     # A further round is refused, and no turn is looked at.
                     data = s.bytes()
@@ -564,7 +565,7 @@ def add_votes(cat):
                         turn = {0} if n == 5 else ()
                         data += record(turn, (), (), [()] * n)
                         fault = 6
-                    cat.add("whole votes, " + name + " air", data, fault)
+                    cat.add("whole votes, " + name + " channel", data, fault)
 
     # Rolls of every other size, briefly.
     for n in range(1, 65):
@@ -573,7 +574,7 @@ def add_votes(cat):
         method = VOTES[n % 3]
         kind = KINDS[n // 3 % 2]
         s = Script(method, kind, random_codes(dice, kind, n))
-        wild_rounds(s, dice, lossy_air(dice, 70), 3, 5, 3)
+        wild_rounds(s, dice, lossy_channel(dice, 70), 3, 5, 3)
         if method == SHORT or n < 16:
             calm_to_the_end(s)
         cat.add("rolls of other sizes", s, 0)
@@ -599,7 +600,7 @@ def add_stops(cat):
             # Many stop under losses.
             for _ in range(3):
                 s = Script(method, kind, random_codes(dice, kind, 9))
-                wild_rounds(s, dice, lossy_air(dice), 30, 15, 6, "all")
+                wild_rounds(s, dice, lossy_channel(dice), 30, 15, 6, "all")
                 calm_to_the_end(s)
                 cat.add(group, s, 0)
             # Stops in the very round in which the others decide.
@@ -699,7 +700,7 @@ def add_alarms(cat):
         for kind in KINDS:
             for extra in (5, 30, 100):
                 s = Script(method, kind, random_codes(dice, kind, 5))
-                wild_rounds(s, dice, clear_air(dice), 3 * (WIDTH[kind] + 2),
+                wild_rounds(s, dice, clear_channel(dice), 3 * (WIDTH[kind] + 2),
                             extra, 0, "lone")
                 calm_to_the_end(s)
                 cat.add(group, s, 0)
@@ -707,7 +708,7 @@ def add_alarms(cat):
     for kind in KINDS:
         for extra in (50, 100):
             s = Script(SPLIT, kind, random_codes(dice, kind, 8, True))
-            wild_rounds(s, dice, lossy_air(dice, 40), 2000, extra)
+            wild_rounds(s, dice, lossy_channel(dice, 40), 2000, extra)
             cat.add(group, s, 0)
 
 
@@ -720,12 +721,12 @@ def add_long(cat):
             for name in ("lossy", "capture")[:n]:
                 kind = dice.one_of(KINDS)
                 s = Script(method, kind, random_codes(dice, kind, n))
-                air = AIRS[name](dice)
+                channel = CHANNELS[name](dice)
                 veto = {SHORT: 1, BIT: WIDTH[kind] + 1}[method]
                 while s.vote.heard < rounds:
                     # alarms where heads could decide keep the vote going
                     extra = 100 if s.vote.phase() == veto else 15
-                    wild_round(s, dice, air, extra, 0, "some")
+                    wild_round(s, dice, channel, extra, 0, "some")
                 calm_to_the_end(s)
                 cat.add(group, s, 0)
     # The longest split votes: each descent fails at its last step, since its
@@ -872,12 +873,12 @@ def damage_base(dice, method, kind, n):
     else:
         codes = random_codes(dice, kind, n)
     s = Script(method, kind, codes)
-    air = lossy_air(dice, 70)
-    wild_round(s, dice, air, 10, 0, "all")
+    channel = lossy_channel(dice, 70)
+    wild_round(s, dice, channel, 10, 0, "all")
     s.hear(stops={dice.below(n)})
-    wild_rounds(s, dice, air, 4 if method == SHORT else 3, 10, 0, "all")
+    wild_rounds(s, dice, channel, 4 if method == SHORT else 3, 10, 0, "all")
     while method == SHORT and s.vote.heard < 4:
-        wild_round(s, dice, air, 10, 0, "all")
+        wild_round(s, dice, channel, 10, 0, "all")
     calm_to_the_end(s)
     return s
 
@@ -1083,7 +1084,7 @@ def add_flips(cat):
         kind = KINDS[k // 3 % 2]
         n = dice.one_of((1, 2, 3, 4, 6))
         s = Script(method, kind, random_codes(dice, kind, n, True))
-        wild_rounds(s, dice, lossy_air(dice, 80), 10, 10, 2)
+        wild_rounds(s, dice, lossy_channel(dice, 80), 10, 10, 2)
         calm_to_the_end(s)
         data = bytearray(s.bytes())
         for _ in range(1 + dice.below(3)):
@@ -1183,12 +1184,12 @@ def main():
                      for _, data in entries)
     text = model_listings(batch)
     listings = compare(entries, text)
-    with open(os.path.join(HERE, "recordings.bin"), "wb") as out:
+    with open(os.path.join(REPLAYS, "stdin"), "wb") as out:
         out.write(batch)
-    with open(os.path.join(HERE, "recordings.txt"), "w") as out:
+    with open(os.path.join(REPLAYS, "stdout"), "w") as out:
         out.write(text)
     summary(entries, listings)
-    print("recordings.bin %d bytes, recordings.txt %d bytes"
+    print("stdin %d bytes, stdout %d bytes"
           % (len(batch), len(text)))
 
 

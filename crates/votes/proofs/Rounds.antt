@@ -3,11 +3,13 @@ use Prim.Native.Nat.{ℕ, zero, suc, _+_}
 use mathlib.Core.Path.{_≡_, refl, sym, ap, ap₂, _∙_}
 use mathlib.Core.List.{List, [], _∷_}
 use mathlib.Core.Bool.{Bool, true, false, cond}
+use native.Mathlib.Omega.{arith}
 use lib.ListN.{getD}
 use Rattle.std.proofs.shelf.Tests.{true≢false}
 use Rattle.std.specs.declared.option.Option.{Option}
 use Rattle.std.specs.declared.option.Option.the-variants.{Some}
 use Rattle.sets.specs.Sets.{bit}
+use Rattle.sets.proofs.Words.{bit-past}
 use Rattle.heads.specs.declared.head.Ballots.{Ballots}
 use Rattle.heads.specs.declared.head.Head.{Head}
 use Rattle.heads.specs.declared.head.Heard.{Heard}
@@ -28,6 +30,12 @@ unfolding ballotsBelow
 ballots-same earlier xs ys w zero same = refl
 ballots-same earlier xs ys w (suc n) same =
     ap₂ (λ s e. cond (bit w n) (joined earlier s e) s) (ballots-same earlier xs ys w n same) (same n)
+
+-- an empty hear word brings no ballot
+pub no-one : {B : Type 0} (earlier : B → B → Bool) (hs : List (Head B)) (n : ℕ) → ballotsBelow earlier hs 0 n ≡ no-ballots
+unfolding ballotsBelow
+no-one earlier hs zero = refl
+no-one earlier hs (suc n) = let e = bit-past 0 0 n (omega arith) (omega arith) in rw e (no-one earlier hs n)
 
 -- noting ballots leaves the estimates
 pub rewrite-estimate : {B : Type 0} (f : ℕ → Head B → Head B) → ((i : ℕ) (h : Head B) → f i h .estimate ≡ h .estimate)

@@ -10,7 +10,7 @@ use Rattle.votes.specs.declared.faults.VoteFault.{VoteFault}
 use Rattle.votes.specs.declared.faults.VoteFault.the-variants.{Ballot, RollFull, NoHeads, ShortTable, RoundsSpent, NoneRuns, IdleTurn, WordCount, IdleStop, IdleNoise, NotSender, OwnUnheard, AlarmMissing, FalseAlarm, HearingSpent, StillRuns}
 use Rattle.votes.specs.declared.faults.Refusal.{Refusal}
 
--- a head heard another that did not send
+-- a head heard one that did not send
 abbrev pub notSender : ℕ → ℕ → ℕ → Breach
 notSender round head other = record { number = 11; round = Some round; head = Some head; other = Some other }
 

@@ -1,7 +1,8 @@
 -- One round: who sends, which report of it is refused, and the heads' records after it.
 use mathlib.Core.List.{List}
 use mathlib.Core.Bool.{Bool, true, false, cond, not, _&&_, _||_}
-use Prim.Native.Nat.{ℕ}
+use mathlib.Core.Path.{_≡_}
+use Prim.Native.Nat.{ℕ, _≤_}
 use lib.Dec.{eqb}
 use lib.ListN.{getD}
 use Rattle.std.specs.Finite.{nth}
@@ -32,9 +33,13 @@ abbrev pub speaks : {B : Type 0} → Scheme B → ℕ → Bool → Option (Head 
 speaks s round turn None = false
 speaks s round turn (Some h) = says s round turn h
 
--- the running heads that send in a round with those turns
+-- head i runs and sends in a round with those turns
+abbrev pub sends : {B : Type 0} → Scheme B → ℕ → List (Head B) → ℕ → ℕ → ℕ → Bool
+sends s round hs n turns i = stands Running hs n i && speaks s round (bit turns i) (nth hs i)
+
+-- the heads that send, as a set
 unfoldable pub senders : {B : Type 0} → Scheme B → ℕ → List (Head B) → ℕ → ℕ → ℕ
-senders s round hs n turns = wordOf n (λ i. stands Running hs n i && speaks s round (bit turns i) (nth hs i))
+senders s round hs n turns = wordOf n (sends s round hs n turns)
 
 -- c: how many heads send
 abbrev pub sent : ℕ → ℕ
@@ -43,6 +48,10 @@ sent senders = count 64 (bit senders)
 -- t: how many of the senders a hear word has
 abbrev pub heardOf : ℕ → ℕ → ℕ
 heardOf senders word = count 64 (λ i. bit word i && bit senders i)
+
+-- the ones of the senders' set are as many as the heads of the table that send
+abbrev pub Counted : Type 0 → Type 0
+Counted B = (s : Scheme B) (round : ℕ) (hs : List (Head B)) (n turns : ℕ) → n ≤ 64 → sent (senders s round hs n turns) ≡ count n (sends s round hs n turns)
 
 -- ---- which report is refused: the first rule broken at head i, and at the lowest head
 

@@ -24,7 +24,7 @@ fn stranger(senders: u64, word: u64, j: usize) -> bool
     sets::has(word, j) && !sets::has(senders, j)
 }
 
-// Whether a head has its own message, if it sent one.
+// Whether a head sent and does not hear itself.
 fn own_unheard(senders: u64, word: u64, head: usize) -> bool
     ensures { λ r. ⌜ r ≡ bit senders head && not (bit word head) ⌝ }
 {

@@ -24,7 +24,7 @@ pub enum VoteFault {
     IdleStop { round: u32, head: usize },
     // 10: a message heard or an alarm at a head that does not run
     IdleNoise { round: u32, head: usize },
-    // 11: a head heard another that did not send
+    // 11: a head heard one that did not send
     NotSender { round: u32, head: usize, other: usize },
     // 12: a sender did not hear itself
     OwnUnheard { round: u32, head: usize },

@@ -3,6 +3,8 @@ pub mod faults;
 pub mod stages;
 pub mod refusals;
 mod tables;
+
+pub use tables::senders_are_counted;
 mod checks;
 mod steps;
 mod enroll;

@@ -2,6 +2,7 @@
 ghost use mathlib.Core.Path.{_≡_};
 ghost use Prim.Native.Nat.{_≤_};
 ghost use lib.ListN.{length};
+ghost use Rattle.heads.specs.Heard.{ballotsOf};
 ghost use Rattle.votes.specs.Rounds.{Report, stepped, after};
 ghost use Rattle.votes.specs.Passes.{noted, listened, recalls, takeAt};
 ghost use Rattle.votes.specs.Tables.{rewrite};
@@ -25,6 +26,14 @@ fn note<B: Copy>(stop: bool, ballots: Ballots<B>, h: Head<B>) -> Head<B>
     }
 }
 
+// The ballots heard with a hear word, by those heard with another that is often the same.
+fn heard_again<B: Ballot>(table: &[Head<B>], word: u64, last: u64, ballots: Ballots<B>) -> Ballots<B>
+    requires { ⌜ ballots ≡ ballotsOf earlier (now table) last ⌝ }
+    ensures { λ r. ⌜ r ≡ ballotsOf earlier (now (table .entry)) word ⌝ }
+{
+    if word == last { ballots } else { ballots_heard(table, word) }
+}
+
 // In a round of ballots every head notes what it heard; the estimates stay.
 fn listen<B: Ballot, V: Method<B>>(method: V, round: u32, table: &mut [Head<B>], words: &[u64], stops: u64)
     requires { ⌜ length (now words) ≤ length (now table) ⌝ }
@@ -33,8 +42,11 @@ fn listen<B: Ballot, V: Method<B>>(method: V, round: u32, table: &mut [Head<B>],
     if !method.of_ballots(round) {
         return;
     }
+    let mut word = 0;
+    let mut ballots = Ballots { least: None, differ: false };
     for i in 0..words.len() {
-        let ballots = ballots_heard(table, words[i]);
+        ballots = heard_again(table, words[i], word, ballots);
+        word = words[i];
         let h = table[i];
         table[i] = note(sets::has(stops, i), ballots, h);
     }

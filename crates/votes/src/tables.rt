@@ -5,7 +5,7 @@ ghost use Prim.Native.Nat.{_≤_};
 ghost use lib.ListN.{length};
 ghost use Rattle.sets.specs.Sets.{bit, lowest};
 ghost use Rattle.votes.specs.Tables.{same-state, inState, lowestIdle};
-ghost use Rattle.votes.specs.Rounds.{senders};
+ghost use Rattle.votes.specs.Rounds.{senders, Counted};
 ghost use Rattle.heads.specs.Rules.{says};
 ghost use Rattle.heads.specs.declared.head.State.the-variants.{Running};
 use heads::head::Head;
@@ -50,6 +50,13 @@ fn sends<B: Copy, V: Method<B>>(method: V, round: u32, turn: bool, h: Head<B>) -
     ensures { λ r. ⌜ r ≡ same-state (h .state) Running && says (V·Method .scheme) round turn h ⌝ }
 {
     same(h.state, State::Running) && method.says(round, turn, h)
+}
+
+// How many heads a set of senders has is how many heads of the table send.
+pub fn senders_are_counted<B>() -> u8
+    ensures { λ _. ⌜ Counted B ⌝ }
+{
+    0
 }
 
 // The running heads that send.

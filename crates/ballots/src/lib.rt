@@ -53,5 +53,9 @@ pub fn decode<B: Coded>(code: u16) -> Result<B, BallotFault>
     ensures { λ r. ⌜ r ≡ fromCode encoded decoded code ⌝ }
 {
     let ballot = B::from_code(code);
-    if ballot.code() == code { Ok(ballot) } else { Err(BallotFault::BeyondRange) }
+    if ballot.code() == code {
+        Ok(ballot)
+    } else {
+        Err(BallotFault::BeyondRange)
+    }
 }

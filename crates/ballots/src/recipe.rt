@@ -46,6 +46,8 @@ pub impl Coded for Recipe as RecipeCoded {
     }
 
     fn from_code(code: u16) -> Self {
-        Recipe { number: code % 4096 }
+        Recipe {
+            number: code % 4096,
+        }
     }
 }

@@ -47,6 +47,9 @@ pub impl Coded for Ticket as TicketCoded {
     }
 
     fn from_code(code: u16) -> Self {
-        Ticket { grade: (code / 64 % 16) as u8, tank: (code % 64) as u8 }
+        Ticket {
+            grade: (code / 64 % 16) as u8,
+            tank: (code % 64) as u8,
+        }
     }
 }

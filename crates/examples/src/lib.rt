@@ -35,7 +35,10 @@ mod tests {
             state: State::Running,
             first: ballot,
             estimate: ballot,
-            ballots: Ballots { least: None, differ: false },
+            ballots: Ballots {
+                least: None,
+                differ: false,
+            },
             flag: true,
             prefix: Prefix { bits: 0, length: 0 },
             noise: false,
@@ -43,7 +46,11 @@ mod tests {
     }
 
     // The vote of the first n heads of the table, by one method.
-    fn begun<B: Ballot, V: Method<B> + Drop>(method: V, table: &mut [Head<B>], n: usize) -> Result<Vote<V>, VoteFault> {
+    fn begun<B: Ballot, V: Method<B> + Drop>(
+        method: V,
+        table: &mut [Head<B>],
+        n: usize,
+    ) -> Result<Vote<V>, VoteFault> {
         let mut roll = Roll::new();
         for i in 0..n {
             let Some(h) = table.get(i) else {
@@ -68,7 +75,13 @@ mod tests {
     }
 
     // A round that is opened and heard, or withdrawn where its report is refused.
-    fn heard<B: Ballot, V: Method<B> + Drop>(vote: Vote<V>, table: &mut [Head<B>], turns: u64, words: &[u64], alarms: u64) -> Result<HeardRound<V>, VoteFault> {
+    fn heard<B: Ballot, V: Method<B> + Drop>(
+        vote: Vote<V>,
+        table: &mut [Head<B>],
+        turns: u64,
+        words: &[u64],
+        alarms: u64,
+    ) -> Result<HeardRound<V>, VoteFault> {
         match vote.open(table, turns) {
             Ok(open) => match open.hear(table, words, alarms, 0) {
                 Ok(round) => Ok(round),
@@ -86,7 +99,13 @@ mod tests {
     }
 
     // The number of the rule that a vote's first round breaks, or 0 where it is heard.
-    fn first_round<B: Ballot, V: Method<B> + Drop>(method: V, table: &mut [Head<B>], turns: u64, words: &[u64], alarms: u64) -> u32 {
+    fn first_round<B: Ballot, V: Method<B> + Drop>(
+        method: V,
+        table: &mut [Head<B>],
+        turns: u64,
+        words: &[u64],
+        alarms: u64,
+    ) -> u32 {
         let vote = match begun(method, table, words.len()) {
             Ok(vote) => vote,
             Err(fault) => return fault.refusal().number,
@@ -129,7 +148,12 @@ mod tests {
     // Three senders and no alarm: two heard suffice in a short vote, one in a bit vote.
     #[test]
     fn three_senders() -> Result<(), Fail> {
-        let mut table = [fresh(recipe(1)), fresh(recipe(2)), fresh(recipe(3)), fresh(recipe(4))];
+        let mut table = [
+            fresh(recipe(1)),
+            fresh(recipe(2)),
+            fresh(recipe(3)),
+            fresh(recipe(4)),
+        ];
         check_eq(first_round(Short, &mut table, 7, &[7, 7, 7, 3], 0), 0)?;
         check_eq(first_round(Short, &mut table, 7, &[7, 7, 7, 1], 0), 13)?;
         check_eq(first_round(Bitwise, &mut table, 7, &[7, 7, 7, 1], 0), 0)?;

@@ -45,9 +45,9 @@ module _ {B : Type 0} (earlier : B → B → Bool) (hs : List (Head B)) (word : 
   idle n (inl e) = rw e
   idle n (inr e) = ap (λ o. cond (bit word n) (joined earlier (ballotsBelow earlier hs word n) o) (ballotsBelow earlier hs word n)) e ∙ same (bit word n) (ballotsBelow earlier hs word n)
     where
-    same : (t : Bool) (x : Ballots B) → cond t x x ≡ x
-    same true x = refl
-    same false x = refl
+      same : (t : Bool) (x : Ballots B) → cond t x x ≡ x
+      same true x = refl
+      same false x = refl
 
   pub below-skip : (i z : ℕ) → ((j : ℕ) → i ≤ j → j < i + z → (bit word j ≡ false) ⊎ (estimateAt hs j ≡ None))
       → ballotsBelow earlier hs word (i + z) ≡ ballotsBelow earlier hs word i
@@ -69,7 +69,7 @@ module _ {B : Type 0} (earlier : B → B → Bool) (hs : List (Head B)) (word : 
       let z = i - from in
       let e : from + z ≡ i = omega (arith, f .from) in
       let skip : ballotsBelow earlier hs word i ≡ ballotsBelow earlier hs word from =
-          rw e at (below-skip from z (λ j a b. inl (f .passed j a (omega arith)))) in
+      rw e at (below-skip from z (λ j a b. inl (f .passed j a (omega arith)))) in
       ap (λ x. joined earlier x (Some (h .estimate))) (inv ∙ sym skip) ∙ sym (below-take i h (f .holds) read)
 
   -- the walk's ends: no head is left, or the next is past the table
@@ -85,7 +85,7 @@ module _ {B : Type 0} (earlier : B → B → Bool) (hs : List (Head B)) (word : 
       let f = lowest-some (bit word) from (64 - from) i found in
       let e : from + (64 - from) ≡ 64 = omega arith in
       sym (rw e at (below-skip from (64 - from) (λ j a b.
-        ⊎-elim (λ l. inl (f .passed j a l)) (λ l. inr (ap (mapped (λ x. x .estimate)) (nth-past hs j (omega arith)))) (cases-lt j i))))
+      ⊎-elim (λ l. inl (f .passed j a l)) (λ l. inr (ap (mapped (λ x. x .estimate)) (nth-past hs j (omega arith)))) (cases-lt j i))))
 
   -- ---- what is found, by the laws of the order
 
@@ -93,8 +93,8 @@ module _ {B : Type 0} (earlier : B → B → Bool) (hs : List (Head B)) (word : 
   parted : (n i : ℕ) (d : B) → From hs word (suc n) i d → From hs word n i d ⊎ ((bit word n ≡ true) × (estimateAt hs n ≡ Some d))
   parted n i d h =
       ⊎-elim (λ l. inl (record { within = l; heard = h .heard; sent = h .sent }))
-        (λ l. let e : i ≡ n = omega (arith, h .within) in inr (subst (λ (k : ℕ). bit word k ≡ true) e (h .heard), subst (λ (k : ℕ). estimateAt hs k ≡ Some d) e (h .sent)))
-        (cases-lt i n)
+      (λ l. let e : i ≡ n = omega (arith, h .within) in inr (subst (λ (k : ℕ). bit word k ≡ true) e (h .heard), subst (λ (k : ℕ). estimateAt hs k ≡ Some d) e (h .sent)))
+      (cases-lt i n)
 
   further : (n i : ℕ) (d : B) → From hs word n i d → From hs word (suc n) i d
   further n i d h = record { within = omega (arith, h .within); heard = h .heard; sent = h .sent }
@@ -116,11 +116,12 @@ module _ {B : Type 0} (earlier : B → B → Bool) (hs : List (Head B)) (word : 
     one = λ e i j a b p q. r .one e i j a b (lower i a p) (lower j b q);
   }
     where
-    lower : (i : ℕ) (d : B) → From hs word (suc n) i d → From hs word n i d
-    lower i d p = ⊎-elim (λ x. x) (λ q. absurd (no-one d (q .0) (q .1))) (parted n i d p)
-    least-stays : (o : Option B) → Is-least earlier hs word n o → Is-least earlier hs word (suc n) o
-    least-stays None h = λ i d k. h i d (lower i d k)
-    least-stays (Some b) h = ((h .0 .0, further n (h .0 .0) b (h .0 .1)), λ i d k. h .1 i d (lower i d k))
+      lower : (i : ℕ) (d : B) → From hs word (suc n) i d → From hs word n i d
+      lower i d p = ⊎-elim (λ x. x) (λ q. absurd (no-one d (q .0) (q .1))) (parted n i d p)
+
+      least-stays : (o : Option B) → Is-least earlier hs word n o → Is-least earlier hs word (suc n) o
+      least-stays None h = λ i d k. h i d (lower i d k)
+      least-stays (Some b) h = ((h .0 .0, further n (h .0 .0) b (h .0 .1)), λ i d k. h .1 i d (lower i d k))
 
   module _ (o : Total earlier) where
     not-before : (x b d : B) → earlier x b ≡ true → earlier d b ≡ false → earlier d x ≡ false
@@ -138,15 +139,18 @@ module _ {B : Type 0} (earlier : B → B → Bool) (hs : List (Head B)) (word : 
       one = λ e i j x y k l. only i x k ∙ sym (only j y l);
     }
       where
-      here : From hs word (suc n) n b
-      here = record { within = omega arith; heard = p; sent = f }
-      only : (i : ℕ) (x : B) → From hs word (suc n) i x → x ≡ b
-      only i x k = ⊎-elim (λ q. absurd (r .least i x q)) (λ q. same-some (sym (q .1) ∙ f)) (parted n i x k)
-      absurd-two : Two-heard hs word n → Two-heard hs word (suc n)
-      absurd-two t = further-two n t
-      drop-false : (t : Bool) → (t || false) ≡ true → t ≡ true
-      drop-false true e = refl
-      drop-false false e = e
+        here : From hs word (suc n) n b
+        here = record { within = omega arith; heard = p; sent = f }
+
+        only : (i : ℕ) (x : B) → From hs word (suc n) i x → x ≡ b
+        only i x k = ⊎-elim (λ q. absurd (r .least i x q)) (λ q. same-some (sym (q .1) ∙ f)) (parted n i x k)
+
+        absurd-two : Two-heard hs word n → Two-heard hs word (suc n)
+        absurd-two t = further-two n t
+
+        drop-false : (t : Bool) → (t || false) ≡ true → t ≡ true
+        drop-false true e = refl
+        drop-false false e = e
 
     -- one more ballot x beside the least b so far; u and v say which of the two is before the other
     one-more : (n : ℕ) (b x : B) (d u v : Bool) → earlier b x ≡ u → earlier x b ≡ v → bit word n ≡ true → estimateAt hs n ≡ Some x
@@ -157,8 +161,8 @@ module _ {B : Type 0} (earlier : B → B → Bool) (hs : List (Head B)) (word : 
       one = λ e. absurd (true≢false (sym (or-right d (u || true) (or-right u true refl)) ∙ e));
     }
       where
-      here : From hs word (suc n) n x
-      here = record { within = omega arith; heard = p; sent = f }
+        here : From hs word (suc n) n x
+        here = record { within = omega arith; heard = p; sent = f }
     one-more n b x d true false eu ev p f r = record {
       least = ((r .least .0 .0, further n _ b (r .least .0 .1)), λ i y k. ⊎-elim (r .least .1 i y) (λ q. ap (λ z. earlier z b) (same-some (sym (q .1) ∙ f)) ∙ ev) (parted n i y k));
       two = λ _. (n, r .least .0 .0, x, b, record { within = omega arith; heard = p; sent = f }, further n _ b (r .least .0 .1), λ e. true≢false (sym eu ∙ o .not-itself b x (sym e)));
@@ -170,14 +174,16 @@ module _ {B : Type 0} (earlier : B → B → Bool) (hs : List (Head B)) (word : 
       one = λ e i j y z k l. to-b e i y k ∙ sym (to-b e j z l);
     }
       where
-      plain : (t : Bool) → (t || false) ≡ true → t ≡ true
-      plain true e = refl
-      plain false e = e
-      none : (t : Bool) → (t || false) ≡ false → t ≡ false
-      none true e = e
-      none false e = refl
-      to-b : (d || false) ≡ false → (i : ℕ) (y : B) → From hs word (suc n) i y → y ≡ b
-      to-b e i y k = ⊎-elim (λ q. r .one (none d e) i (r .least .0 .0) y b q (r .least .0 .1)) (λ q. same-some (sym (q .1) ∙ f) ∙ sym (even b x eu ev)) (parted n i y k)
+        plain : (t : Bool) → (t || false) ≡ true → t ≡ true
+        plain true e = refl
+        plain false e = e
+
+        none : (t : Bool) → (t || false) ≡ false → t ≡ false
+        none true e = e
+        none false e = refl
+
+        to-b : (d || false) ≡ false → (i : ℕ) (y : B) → From hs word (suc n) i y → y ≡ b
+        to-b e i y k = ⊎-elim (λ q. r .one (none d e) i (r .least .0 .0) y b q (r .least .0 .1)) (λ q. same-some (sym (q .1) ∙ f) ∙ sym (even b x eu ev)) (parted n i y k)
 
     right-step : (n : ℕ) (t : Bool) (e : Option B) (l : Option B) (d : Bool) → bit word n ≡ t → estimateAt hs n ≡ e → Right n (record { least = l; differ = d })
         → Right (suc n) (cond t (joined earlier (record { least = l; differ = d }) e) (record { least = l; differ = d }))
@@ -194,6 +200,6 @@ module _ {B : Type 0} (earlier : B → B → Bool) (hs : List (Head B)) (word : 
     pub differ-decides : (n : ℕ) → Decides (ballotsBelow earlier hs word n .differ) (Two-heard hs word n)
     differ-decides n = (right n .two, λ t. by (ballotsBelow earlier hs word n .differ) refl t)
       where
-      by : (d : Bool) → ballotsBelow earlier hs word n .differ ≡ d → Two-heard hs word n → d ≡ true
-      by true e t = refl
-      by false e t = absurd (t .6 (right n .one e (t .0) (t .1) (t .2) (t .3) (t .4) (t .5)))
+        by : (d : Bool) → ballotsBelow earlier hs word n .differ ≡ d → Two-heard hs word n → d ≡ true
+        by true e t = refl
+        by false e t = absurd (t .6 (right n .one e (t .0) (t .1) (t .2) (t .3) (t .4) (t .5)))

@@ -87,7 +87,6 @@ stopped h = record { state = Stopped; first = h .first; estimate = h .estimate; 
 abbrev pub lowered : {B : Type 0} → Head B → Head B
 lowered h = record { state = h .state; first = h .first; estimate = h .estimate; ballots = h .ballots; flag = false; prefix = h .prefix; noise = h .noise }
 
-
 -- a head without alarm that heard a ballot takes the least as its estimate
 abbrev pub adopted : {B : Type 0} → Heard B → B → B
 adopted heard estimate = cond (heard .alarm) estimate (valueOr (heard .ballots .least) estimate)
@@ -108,8 +107,8 @@ longer w h b = (2 * h .prefix .bits + b) % 2 ^ w
 abbrev pub grown : {B : Type 0} → ℕ → (ℕ → B) → Head B → ℕ → Head B
 grown w back h b =
     cond (leb w (h .prefix .length + 1))
-      (record { state = Decided; first = h .first; estimate = back (longer w h b); ballots = h .ballots; flag = h .flag; prefix = h .prefix; noise = false })
-      (record { state = h .state; first = h .first; estimate = h .estimate; ballots = h .ballots; flag = h .flag; prefix = record { bits = longer w h b; length = h .prefix .length + 1 }; noise = false })
+    (record { state = Decided; first = h .first; estimate = back (longer w h b); ballots = h .ballots; flag = h .flag; prefix = h .prefix; noise = false })
+    (record { state = h .state; first = h .first; estimate = h .estimate; ballots = h .ballots; flag = h .flag; prefix = record { bits = longer w h b; length = h .prefix .length + 1 }; noise = false })
 
 abbrev pub emptied : {B : Type 0} → Head B → Head B
 emptied h = record { state = h .state; first = h .first; estimate = h .estimate; ballots = h .ballots; flag = h .flag; prefix = record { bits = 0; length = 0 }; noise = false }
@@ -124,8 +123,8 @@ keeps short round heard h =
 keeps (bitwise w code) round heard h =
     cond (eqb (inCycle w round) 0) (moved true heard h)
     (cond (leb (inCycle w round) w)
-      (cond (noisy heard && not (codeBit w (code (h .estimate)) (inCycle w round))) (lowered h) h)
-      (cond (noisy heard) h (decided h)))
+    (cond (noisy heard && not (codeBit w (code (h .estimate)) (inCycle w round))) (lowered h) h)
+    (cond (noisy heard) h (decided h)))
 keeps (split w code back) round heard h =
     cond (odd round) (noted (noisy heard) h)
     (cond (h .noise) (grown w back h 0) (cond (noisy heard) (grown w back h 1) (emptied h)))

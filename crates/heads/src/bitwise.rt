@@ -2,13 +2,13 @@
 ghost use mathlib.Core.Path.{_≡_};
 ghost use Rattle.heads.specs.Rules.{inCycle, codeBit, says, keeps};
 ghost use Rattle.heads.specs.Rules.Scheme.{bitwise};
-use ballots::Coded;
 use crate::head::Head;
 use crate::head::Heard;
 use crate::head::State;
 use crate::method::Method;
 use crate::short::adopt;
 use crate::short::noise;
+use ballots::Coded;
 
 #[derive(Clone, Copy)]
 pub struct Bitwise;
@@ -60,14 +60,29 @@ pub impl<B: Coded> Method<B> for Bitwise as BitwiseMethod {
     {
         let place = in_cycle::<B>(round);
         if place == 0 {
-            return Head { estimate: adopt(heard, head.estimate), ballots: heard.ballots, flag: true, ..head };
+            return Head {
+                estimate: adopt(heard, head.estimate),
+                ballots: heard.ballots,
+                flag: true,
+                ..head
+            };
         }
         if place <= B::bits() {
-            if noise(heard) && !code_bit(head.estimate, place) { Head { flag: false, ..head } } else { head }
+            if noise(heard) && !code_bit(head.estimate, place) {
+                Head {
+                    flag: false,
+                    ..head
+                }
+            } else {
+                head
+            }
         } else if noise(heard) {
             head
         } else {
-            Head { state: State::Decided, ..head }
+            Head {
+                state: State::Decided,
+                ..head
+            }
         }
     }
 }

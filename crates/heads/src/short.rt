@@ -2,12 +2,12 @@
 ghost use mathlib.Core.Path.{_≡_};
 ghost use Rattle.heads.specs.Rules.{noisy, onlyOne, adopted, says, keeps};
 ghost use Rattle.heads.specs.Rules.Scheme.{short};
-use ballots::Ballot;
 use crate::head::Ballots;
 use crate::head::Head;
 use crate::head::Heard;
 use crate::head::State;
 use crate::method::Method;
+use ballots::Ballot;
 
 #[derive(Clone, Copy)]
 pub struct Short;
@@ -63,8 +63,20 @@ pub impl<B: Ballot> Method<B> for Short as ShortMethod {
         if round % 2 == 1 {
             let estimate = adopt(heard, head.estimate);
             let flag = !(heard.alarm || heard.ballots.differ);
-            return Head { estimate, ballots: heard.ballots, flag, ..head };
+            return Head {
+                estimate,
+                ballots: heard.ballots,
+                flag,
+                ..head
+            };
         }
-        if !noise(heard) && only_one(head.ballots) { Head { state: State::Decided, ..head } } else { head }
+        if !noise(heard) && only_one(head.ballots) {
+            Head {
+                state: State::Decided,
+                ..head
+            }
+        } else {
+            head
+        }
     }
 }

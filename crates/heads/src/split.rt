@@ -3,13 +3,13 @@ ghost use mathlib.Core.Path.{_≡_};
 ghost use mathlib.Core.Bool.{cond};
 ghost use Rattle.heads.specs.Rules.{begins, grown, says, keeps};
 ghost use Rattle.heads.specs.Rules.Scheme.{split};
-use ballots::Coded;
 use crate::head::Head;
 use crate::head::Heard;
 use crate::head::Prefix;
 use crate::head::State;
 use crate::method::Method;
 use crate::short::noise;
+use ballots::Coded;
 
 #[derive(Clone, Copy)]
 pub struct Split;
@@ -28,9 +28,21 @@ fn grow<B: Coded>(head: Head<B>, bit: bool) -> Head<B>
 {
     let bits = ((2 * head.prefix.bits as u32 + bit as u32) % (1 << B::bits())) as u16;
     if head.prefix.length as u32 + 1 >= B::bits() {
-        return Head { state: State::Decided, estimate: B::from_code(bits), noise: false, ..head };
+        return Head {
+            state: State::Decided,
+            estimate: B::from_code(bits),
+            noise: false,
+            ..head
+        };
     }
-    Head { prefix: Prefix { bits, length: head.prefix.length + 1 }, noise: false, ..head }
+    Head {
+        prefix: Prefix {
+            bits,
+            length: head.prefix.length + 1,
+        },
+        noise: false,
+        ..head
+    }
 }
 
 pub impl<B: Coded> Method<B> for Split as SplitMethod {
@@ -58,14 +70,21 @@ pub impl<B: Coded> Method<B> for Split as SplitMethod {
         ensures { λ r. ⌜ r ≡ keeps (split (B·Coded .width) (B·Coded .encoded) (B·Coded .decoded)) round heard head ⌝ }
     {
         if round % 2 == 1 {
-            return Head { noise: noise(heard), ..head };
+            return Head {
+                noise: noise(heard),
+                ..head
+            };
         }
         if head.noise {
             grow(head, false)
         } else if noise(heard) {
             grow(head, true)
         } else {
-            Head { prefix: Prefix { bits: 0, length: 0 }, noise: false, ..head }
+            Head {
+                prefix: Prefix { bits: 0, length: 0 },
+                noise: false,
+                ..head
+            }
         }
     }
 }

@@ -20,10 +20,10 @@ pub rounds-more : (fs : List Figures) (i : ℕ) (d : Figures) → i < length fs 
 unfolding roundLines
 rounds-more fs i d h = let s : i + 1 ≡ suc i = omega arith in rw s (go fs i h)
   where
-  go : (fs : List Figures) (i : ℕ) → i < length fs → roundLines (take (suc i) fs) ≡ roundLines (take i fs) ++ roundLine (getD fs i d)
-  go [] i h = absurd (omega arith)
-  go (f ∷ fs) zero h = append-nil (roundLine f)
-  go (f ∷ fs) (suc i) h = ap (λ x. roundLine f ++ x) (go fs i (omega arith)) ∙ sym (append-assoc (roundLine f) (roundLines (take i fs)) (roundLine (getD fs i d)))
+    go : (fs : List Figures) (i : ℕ) → i < length fs → roundLines (take (suc i) fs) ≡ roundLines (take i fs) ++ roundLine (getD fs i d)
+    go [] i h = absurd (omega arith)
+    go (f ∷ fs) zero h = append-nil (roundLine f)
+    go (f ∷ fs) (suc i) h = ap (λ x. roundLine f ++ x) (go fs i (omega arith)) ∙ sym (append-assoc (roundLine f) (roundLines (take i fs)) (roundLine (getD fs i d)))
 
 pub heads-none : (os : List Outcome) (w : List ℕ) → w ≡ w ++ headLines 0 (take 0 os)
 unfolding headLines
@@ -33,10 +33,10 @@ pub heads-more : (os : List Outcome) (i : ℕ) (d : Outcome) → i < length os �
 unfolding headLines
 heads-more os i d h = let s : i + 1 ≡ suc i = omega arith in let z : 0 + i ≡ i = omega arith in rw s (go 0 os i h ∙ ap (λ (k : ℕ). headLines 0 (take i os) ++ headLine k (getD os i d)) z)
   where
-  go : (j : ℕ) (os : List Outcome) (i : ℕ) → i < length os → headLines j (take (suc i) os) ≡ headLines j (take i os) ++ headLine (j + i) (getD os i d)
-  go j [] i h = absurd (omega arith)
-  go j (o ∷ os) zero h = let z : j + 0 ≡ j = omega arith in append-nil (headLine j o) ∙ ap (λ (k : ℕ). headLine k o) (sym z)
-  go j (o ∷ os) (suc i) h =
-      let z : (j + 1) + i ≡ j + suc i = omega arith in
-      ap (λ x. headLine j o ++ x) (go (j + 1) os i (omega arith) ∙ ap (λ (k : ℕ). headLines (j + 1) (take i os) ++ headLine k (getD os i d)) z)
-      ∙ sym (append-assoc (headLine j o) (headLines (j + 1) (take i os)) (headLine (j + suc i) (getD os i d)))
+    go : (j : ℕ) (os : List Outcome) (i : ℕ) → i < length os → headLines j (take (suc i) os) ≡ headLines j (take i os) ++ headLine (j + i) (getD os i d)
+    go j [] i h = absurd (omega arith)
+    go j (o ∷ os) zero h = let z : j + 0 ≡ j = omega arith in append-nil (headLine j o) ∙ ap (λ (k : ℕ). headLine k o) (sym z)
+    go j (o ∷ os) (suc i) h =
+        let z : (j + 1) + i ≡ j + suc i = omega arith in
+        ap (λ x. headLine j o ++ x) (go (j + 1) os i (omega arith) ∙ ap (λ (k : ℕ). headLines (j + 1) (take i os) ++ headLine k (getD os i d)) z)
+        ∙ sym (append-assoc (headLine j o) (headLines (j + 1) (take i os)) (headLine (j + suc i) (getD os i d)))

@@ -13,7 +13,6 @@ use Rattle.recordings.specs.declared.listing.Outcome.the-variants as outcome
 use Rattle.recordings.specs.Files.{Located, Played}
 
 infixl 20 _▹_
-
 -- two texts with a blank between them
 abbrev pub _▹_ : List ℕ → List ℕ → List ℕ
 a ▹ b = a ++ (32 ∷ b)

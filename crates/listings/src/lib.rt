@@ -1,4 +1,4 @@
 // The listing of a played vote, as text.
-pub mod text;
 mod lines;
 mod numbers;
+pub mod text;

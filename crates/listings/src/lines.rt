@@ -5,12 +5,12 @@ ghost use Rattle.std.specs.Of.Vec.{vec-items};
 ghost use Rattle.std.specs.Vec.{made};
 ghost use Rattle.recordings.specs.Files.{fileBreach};
 ghost use Rattle.listings.specs.Texts.{roundLine, outcomeText, headLine, faultLine};
+use crate::numbers::push_figure;
+use crate::numbers::push_value;
 use recordings::faults::FileFault;
 use recordings::listing::Outcome;
 use std::alloc::AllocError;
 use votes::stages::Figures;
-use crate::numbers::push_figure;
-use crate::numbers::push_value;
 
 // The line of a heard round.
 pub fn push_round(out: &mut Vec<u8>, f: Figures) -> Result<(), AllocError>

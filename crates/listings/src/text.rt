@@ -5,14 +5,14 @@ ghost use Rattle.std.specs.Of.Vec.{vec-items};
 ghost use Rattle.std.specs.Vec.{made};
 ghost use Rattle.recordings.specs.Files.{listingAs};
 ghost use Rattle.listings.specs.Texts.{listingText, roundLines, headLines};
+use crate::lines::push_fault;
+use crate::lines::push_head;
+use crate::lines::push_round;
 use recordings::listing::Listing;
 use recordings::listing::Outcome;
 use std::alloc::AllocError;
 use std::alloc::Global;
 use votes::stages::Figures;
-use crate::lines::push_fault;
-use crate::lines::push_head;
-use crate::lines::push_round;
 
 fn push_rounds(out: &mut Vec<u8>, rounds: &[Figures]) -> Result<(), AllocError>
     ensures { λ r. ⌜ made r (λ _. vec-items (now (out .exit)) ≡ vec-items (now (out .entry)) ++ roundLines (now (rounds .entry))) ⌝ }

@@ -57,9 +57,9 @@ written : {H : Type 0} (f : ℕ → H) (i n : ℕ) (hs : List H) → length hs �
 unfolding rewriteFrom
 written f i zero hs e = nothing hs e
   where
-  nothing : {H : Type 0} (hs : List H) → length hs ≡ 0 → hs ≡ []
-  nothing [] e = refl
-  nothing (h ∷ hs) e = absurd (omega arith)
+    nothing : {H : Type 0} (hs : List H) → length hs ≡ 0 → hs ≡ []
+    nothing [] e = refl
+    nothing (h ∷ hs) e = absurd (omega arith)
 written f i (suc n) [] e = absurd (omega arith)
 written f i (suc n) (h ∷ hs) e = ap (λ ys. f i ∷ ys) (written f (i + 1) n hs (omega arith))
 

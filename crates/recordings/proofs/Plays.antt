@@ -94,8 +94,8 @@ module _ {V B : Type 0} (earlier : B → B → Bool) (s : Scheme B) (v : Vote V)
     answerAs : Opened V → Answer (Begun V × Figures) (Unit {0})
     answerAs x =
         unless (hearBreach s (x .n) (x .heard + 1) (x .senders) hs q)
-          (record { n = x .n; heard = x .heard + 1; method = x .method }, figuresOf (x .n) (x .heard + 1) (x .senders) (q .alarms) (after earlier s (x .n) (x .senders) (x .heard + 1) hs q))
-          tt
+        (record { n = x .n; heard = x .heard + 1; method = x .method }, figuresOf (x .n) (x .heard + 1) (x .senders) (q .alarms) (after earlier s (x .n) (x .senders) (x .heard + 1) hs q))
+        tt
 
     pub heard-one : forget (heard earlier s o hs q) ≡ playedOne earlier s v bytes at hs
     unfolding answerAs figuresAfter recordsAfter
@@ -130,9 +130,9 @@ module _ {B : Type 0} (earlier : B → B → Bool) (s : Scheme B) (n : ℕ) (byt
   played-ended zero at figures fault = refl
   played-ended (suc k) at figures fault = either (leb (length bytes) at) (played-ended k (at + roundSize n) figures fault)
     where
-    either : (t : Bool) {x y : Progress B} → y ≡ x → cond t x y ≡ x
-    either true e = refl
-    either false e = e
+      either : (t : Bool) {x y : Progress B} → y ≡ x → cond t x y ≡ x
+      either true e = refl
+      either false e = e
 
   -- a round that is heard, and one that is refused
   pub round-heard : (at round : ℕ) (figures : List Figures) (hs : List (Head B)) → round ≡ length figures + 1 → playBreach earlier s n bytes at round hs ≡ None
@@ -162,14 +162,14 @@ module _ {V B : Type 0} (earlier : B → B → Bool) (s : Scheme B) (v : Vote V)
       let both = unless-done (playBreach earlier s (v .n) bytes at (v .heard + 1) hs) (next, new) _ tt answer in
       let told : new ≡ figuresAfter earlier s (v .n) bytes at (v .heard + 1) hs = ap (λ (x : Begun V × Figures). x .1) (both .1) in
       let kept : table ≡ recordsAfter earlier s (v .n) bytes at (v .heard + 1) hs =
-          tables ∙ ap (λ b. changed b (recordsAfter earlier s (v .n) bytes at (v .heard + 1) hs) hs) (both .0) in
+      tables ∙ ap (λ b. changed b (recordsAfter earlier s (v .n) bytes at (v .heard + 1) hs) hs) (both .0) in
       subst (Turn next new table) e (record {
         same = ap (λ (x : Begun V × Figures). x .0 .n) (both .1);
         more = ap (λ (x : Begun V × Figures). x .0 .heard) (both .1) ∙ ap (λ (k : ℕ). k + 1) counted ∙ sym (length-append figures (new ∷ []));
         goes = λ k. played-more earlier s (v .n) bytes k at (going figures hs) inside
-          ∙ ap (playedFrom earlier s (v .n) bytes k (at + roundSize (v .n)))
-              (round-heard earlier s (v .n) bytes at (v .heard + 1) figures hs (ap (λ (k : ℕ). k + 1) counted) (both .0)
-              ∙ ap₂ (λ f t. going (figures ++ (f ∷ [])) t) (sym told) (sym kept));
+            ∙ ap (playedFrom earlier s (v .n) bytes k (at + roundSize (v .n)))
+            (round-heard earlier s (v .n) bytes at (v .heard + 1) figures hs (ap (λ (k : ℕ). k + 1) counted) (both .0)
+            ∙ ap₂ (λ f t. going (figures ++ (f ∷ [])) t) (sym told) (sym kept));
       })
 
   pub turn-refused : (b : Breach) → refused b tt ≡ playedOne earlier s v bytes at hs → (n : ℕ) → v .n ≡ n
@@ -177,10 +177,10 @@ module _ {V B : Type 0} (earlier : B → B → Bool) (s : Scheme B) (v : Vote V)
   turn-refused b answer n e =
       let broken = unless-refused (playBreach earlier s (v .n) bytes at (v .heard + 1) hs) b _ tt tt answer in
       subst (λ (m : ℕ). (k : ℕ) → playedFrom earlier s m bytes (suc k) at (going figures hs) ≡ ended figures (record { byte = at; breach = b })) e
-        (λ k. played-more earlier s (v .n) bytes k at (going figures hs) inside
-          ∙ ap (playedFrom earlier s (v .n) bytes k (at + roundSize (v .n)))
-              (round-refused earlier s (v .n) bytes at (v .heard + 1) figures hs b (ap (λ (k : ℕ). k + 1) counted) broken)
-          ∙ played-ended earlier s (v .n) bytes k (at + roundSize (v .n)) figures (record { byte = at; breach = b }))
+      (λ k. played-more earlier s (v .n) bytes k at (going figures hs) inside
+      ∙ ap (playedFrom earlier s (v .n) bytes k (at + roundSize (v .n)))
+      (round-refused earlier s (v .n) bytes at (v .heard + 1) figures hs b (ap (λ (k : ℕ). k + 1) counted) broken)
+      ∙ played-ended earlier s (v .n) bytes k (at + roundSize (v .n)) figures (record { byte = at; breach = b }))
 
 -- ---- what the calls that allocate answer, where they find memory
 

@@ -169,8 +169,8 @@ playAnswer (Err fault) = refused (recordBreach fault) tt
 abbrev pub playedOne : {V B : Type 0} → (B → B → Bool) → Scheme B → Vote V → List ℕ → ℕ → List (Head B) → Answer (Begun V × Figures) (Unit {0})
 playedOne earlier s v bytes at hs =
     unless (playBreach earlier s (v .n) bytes at (v .heard + 1) hs)
-      (record { n = v .n; heard = v .heard + 1; method = v .method }, figuresAfter earlier s (v .n) bytes at (v .heard + 1) hs)
-      tt
+    (record { n = v .n; heard = v .heard + 1; method = v .method }, figuresAfter earlier s (v .n) bytes at (v .heard + 1) hs)
+    tt
 
 -- ---- the listing
 
@@ -206,7 +206,7 @@ startedBy None p = p
 unfoldable pub progressOf : {B : Type 0} → (B → B → Bool) → (B → ℕ) → (ℕ → B) → Scheme B → ℕ → List ℕ → Progress B
 progressOf earlier encoded decoded s n bytes =
     startedBy (codesBreach encoded decoded bytes n)
-      (playedFrom earlier s n bytes (length bytes) (5 + 2 * n) (going [] (enrolledFrom decoded bytes n)))
+    (playedFrom earlier s n bytes (length bytes) (5 + 2 * n) (going [] (enrolledFrom decoded bytes n)))
 
 abbrev pub playedAs : {B : Type 0} → (B → B → Bool) → (B → ℕ) → (ℕ → B) → Scheme B → ℕ → List ℕ → Played
 playedAs earlier encoded decoded s n bytes = told encoded (progressOf earlier encoded decoded s n bytes)

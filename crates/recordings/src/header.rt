@@ -4,12 +4,6 @@ ghost use mathlib.Core.Bool.{true};
 ghost use Prim.Native.Nat.{_+_, _*_, _≤_};
 ghost use lib.ListN.{length};
 ghost use Rattle.recordings.specs.Files.{HeaderOf, voteOf, kindOf, inRange, EnrolledOf, StartedOf};
-use ballots::Coded;
-use heads::head::Head;
-use votes::refusals::VoteFromBallot;
-use votes::refusals::ballot_of;
-use votes::stages::Roll;
-use votes::stages::Vote;
 use crate::bytes::is_marked;
 use crate::bytes::read_u16;
 use crate::faults::RecordFault;
@@ -18,6 +12,12 @@ use crate::kinds::Header;
 use crate::kinds::VoteKind;
 use crate::rounds::RecordFromFault;
 use crate::rounds::RecordFromRoll;
+use ballots::Coded;
+use heads::head::Head;
+use votes::refusals::VoteFromBallot;
+use votes::refusals::ballot_of;
+use votes::stages::Roll;
+use votes::stages::Vote;
 
 // Whether the vote, the kind and the number of heads are in their ranges.
 fn in_range(vote: u8, kind: u8, heads: u8) -> bool
@@ -59,7 +59,11 @@ pub fn read_header(bytes: &[u8]) -> Result<Header, RecordFault>
     if !in_range(bytes[2], bytes[3], bytes[4]) {
         return Err(RecordFault::Header);
     }
-    Ok(Header { vote: vote_of(bytes[2]), kind: kind_of(bytes[3]), heads: bytes[4] as usize })
+    Ok(Header {
+        vote: vote_of(bytes[2]),
+        kind: kind_of(bytes[3]),
+        heads: bytes[4] as usize,
+    })
 }
 
 // Enrolls a head for each of the n codes.
@@ -76,7 +80,12 @@ fn enroll_all<B: Coded>(bytes: &[u8], n: usize, table: &mut [Head<B>]) -> Result
 }
 
 // The vote of the n heads whose codes follow the first five bytes.
-pub fn start<B: Coded, V: Drop>(method: V, bytes: &[u8], n: usize, table: &mut [Head<B>]) -> Result<Vote<V>, RecordFault>
+pub fn start<B: Coded, V: Drop>(
+    method: V,
+    bytes: &[u8],
+    n: usize,
+    table: &mut [Head<B>],
+) -> Result<Vote<V>, RecordFault>
     requires { ⌜ 1 ≤ n ⌝ ∗ ⌜ n ≤ 64 ⌝ ∗ ⌜ length (now table) ≡ n ⌝ ∗ ⌜ 5 ≤ length (now bytes) ⌝ }
     ensures { λ r. ⌜ StartedOf encoded decoded (now (bytes .entry)) n (now (table .exit)) r ⌝ }
 {

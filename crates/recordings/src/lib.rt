@@ -1,9 +1,9 @@
 // Recorded votes: a vote file is read and played.
-pub mod faults;
-pub mod listing;
-pub mod play;
 mod bytes;
+pub mod faults;
 mod header;
 mod kinds;
+pub mod listing;
+pub mod play;
 mod refusals;
 mod rounds;

@@ -1,6 +1,6 @@
 // What playing a vote file tells.
-use votes::stages::Figures;
 use crate::faults::FileFault;
+use votes::stages::Figures;
 
 // How a head stands at the end, with the code of the ballot that it decided.
 #[derive(Clone, Copy)]

@@ -6,11 +6,19 @@ ghost use lib.ListN.{length};
 ghost use Rattle.std.specs.Of.Vec.{vec-items, vec-len};
 ghost use Rattle.std.specs.Vec.{made};
 ghost use Rattle.recordings.specs.Files.{outcomeOf, progressOf, endedBy, playedAs, listingAs, schemeOf, played};
+use crate::faults::FileFault;
+use crate::header::read_header;
+use crate::header::start;
+use crate::kinds::BallotKind;
+use crate::kinds::VoteKind;
+use crate::listing::Listing;
+use crate::listing::Outcome;
+use crate::rounds::play_rounds;
 use ballots::Coded;
-use ballots::recipe::RecipeBallot;
-use ballots::recipe::RecipeCoded;
 use ballots::kinds::Recipe;
 use ballots::kinds::Ticket;
+use ballots::recipe::RecipeBallot;
+use ballots::recipe::RecipeCoded;
 use ballots::ticket::TicketBallot;
 use ballots::ticket::TicketCoded;
 use heads::bitwise::Bitwise;
@@ -27,14 +35,6 @@ use heads::split::SplitMethod;
 use std::alloc::AllocError;
 use std::alloc::Global;
 use votes::stages::Figures;
-use crate::faults::FileFault;
-use crate::header::read_header;
-use crate::header::start;
-use crate::kinds::BallotKind;
-use crate::kinds::VoteKind;
-use crate::listing::Listing;
-use crate::listing::Outcome;
-use crate::rounds::play_rounds;
 
 // How a head stands at the end.
 fn outcome<B: Coded>(h: Head<B>) -> Outcome
@@ -60,7 +60,14 @@ fn outcomes<B: Coded>(heap: Global, table: &[Head<B>]) -> Result<Vec<Outcome>, A
 
 // Plays the file on a table and a list of words, both of n; the figures of the rounds heard go into rounds.
 // The answer is the fault that ended it.
-fn play_table<B: Coded, V: Method<B> + Drop>(method: V, bytes: &[u8], n: usize, table: &mut [Head<B>], words: &mut [u64], rounds: &mut Vec<Figures>) -> Result<Option<FileFault>, AllocError>
+fn play_table<B: Coded, V: Method<B> + Drop>(
+    method: V,
+    bytes: &[u8],
+    n: usize,
+    table: &mut [Head<B>],
+    words: &mut [u64],
+    rounds: &mut Vec<Figures>,
+) -> Result<Option<FileFault>, AllocError>
     requires heads { ⌜ 1 ≤ n ⌝ ∗ ⌜ n ≤ 64 ⌝ ∗ ⌜ length (now table) ≡ n ⌝ ∗ ⌜ length (now words) ≡ n ⌝ }
     requires file { ⌜ 5 ≤ length (now bytes) ⌝ ∗ ⌜ vec-items (now rounds) ≡ [] ⌝ }
     ensures { λ r. ⌜ made r (λ f. progressOf (B·Ballot .earlier) encoded decoded (V·Method .scheme) n (now (bytes .entry)) ≡ endedBy f (vec-items (now (rounds .exit))) (now (table .exit))) ⌝ }
@@ -80,7 +87,10 @@ fn vacant_table<B: Coded>(heap: Global, n: usize) -> Result<Vec<Head<B>>, AllocE
         state: State::Stopped,
         first: ballot,
         estimate: ballot,
-        ballots: Ballots { least: None, differ: false },
+        ballots: Ballots {
+            least: None,
+            differ: false,
+        },
         flag: false,
         prefix: Prefix { bits: 0, length: 0 },
         noise: false,
@@ -93,25 +103,48 @@ fn vacant_table<B: Coded>(heap: Global, n: usize) -> Result<Vec<Head<B>>, AllocE
 }
 
 // Plays the file of a vote of n heads by one method, with ballots of one kind.
-fn play_as<B: Coded, V: Method<B> + Drop>(heap: Global, method: V, bytes: &[u8], n: usize) -> Result<Listing, AllocError>
+fn play_as<B: Coded, V: Method<B> + Drop>(
+    heap: Global,
+    method: V,
+    bytes: &[u8],
+    n: usize,
+) -> Result<Listing, AllocError>
     requires { ⌜ 1 ≤ n ⌝ ∗ ⌜ n ≤ 64 ⌝ ∗ ⌜ 5 ≤ length (now bytes) ⌝ }
     ensures { λ r. ⌜ made r (λ l. listingAs l ≡ playedAs (B·Ballot .earlier) encoded decoded (V·Method .scheme) n (now (bytes .entry))) ⌝ }
 {
     let mut rounds = Vec::new(heap);
     let mut table = vacant_table::<B>(heap, n)?;
     let mut words = vec![in heap; 0u64; n]?;
-    let ended = play_table(method, bytes, n, table.as_mut_slice(), words.as_mut_slice(), &mut rounds)?;
+    let ended = play_table(
+        method,
+        bytes,
+        n,
+        table.as_mut_slice(),
+        words.as_mut_slice(),
+        &mut rounds,
+    )?;
     match ended {
-        Some(fault) => Ok(Listing { rounds, ending: Err(fault) }),
+        Some(fault) => Ok(Listing {
+            rounds,
+            ending: Err(fault),
+        }),
         None => {
             let heads = outcomes(heap, table.as_slice())?;
-            Ok(Listing { rounds, ending: Ok(heads) })
+            Ok(Listing {
+                rounds,
+                ending: Ok(heads),
+            })
         }
     }
 }
 
 // Plays the file of a vote of n heads with ballots of one kind.
-fn play_kind<B: Coded>(heap: Global, vote: VoteKind, bytes: &[u8], n: usize) -> Result<Listing, AllocError>
+fn play_kind<B: Coded>(
+    heap: Global,
+    vote: VoteKind,
+    bytes: &[u8],
+    n: usize,
+) -> Result<Listing, AllocError>
     requires { ⌜ 1 ≤ n ⌝ ∗ ⌜ n ≤ 64 ⌝ ∗ ⌜ 5 ≤ length (now bytes) ⌝ }
     ensures { λ r. ⌜ made r (λ l. listingAs l ≡ playedAs (B·Ballot .earlier) encoded decoded (schemeOf vote width encoded decoded) n (now (bytes .entry))) ⌝ }
 {
@@ -127,7 +160,10 @@ pub fn play(heap: Global, bytes: &[u8]) -> Result<Listing, AllocError>
     ensures { λ r. ⌜ made r (λ l. listingAs l ≡ played (now (bytes .entry))) ⌝ }
 {
     match read_header(bytes) {
-        Err(fault) => Ok(Listing { rounds: Vec::new(heap), ending: Err(FileFault { byte: 0, fault }) }),
+        Err(fault) => Ok(Listing {
+            rounds: Vec::new(heap),
+            ending: Err(FileFault { byte: 0, fault }),
+        }),
         Ok(header) => match header.kind {
             BallotKind::Recipe => play_kind::<Recipe>(heap, header.vote, bytes, header.heads),
             BallotKind::Ticket => play_kind::<Ticket>(heap, header.vote, bytes, header.heads),

@@ -2,8 +2,8 @@
 ghost use mathlib.Core.Path.{_≡_};
 ghost use Rattle.votes.specs.Faults.{refusalBreach};
 ghost use Rattle.recordings.specs.Files.{recordBreach};
-use votes::faults::Refusal;
 use crate::faults::RecordFault;
+use votes::faults::Refusal;
 
 impl RecordFault {
     // The number of the rule, and the values that it names.
@@ -12,9 +12,24 @@ impl RecordFault {
     {
         match self {
             RecordFault::Vote(fault) => fault.refusal(),
-            RecordFault::Ends => Refusal { number: 20, round: None, head: None, other: None },
-            RecordFault::Mark => Refusal { number: 21, round: None, head: None, other: None },
-            RecordFault::Header => Refusal { number: 22, round: None, head: None, other: None },
+            RecordFault::Ends => Refusal {
+                number: 20,
+                round: None,
+                head: None,
+                other: None,
+            },
+            RecordFault::Mark => Refusal {
+                number: 21,
+                round: None,
+                head: None,
+                other: None,
+            },
+            RecordFault::Header => Refusal {
+                number: 22,
+                round: None,
+                head: None,
+                other: None,
+            },
         }
     }
 }

@@ -10,6 +10,11 @@ ghost use Rattle.std.specs.Vec.{made};
 ghost use Rattle.votes.specs.Calls.{changed};
 ghost use Rattle.recordings.specs.declared.faults.RecordFault.the-variants.{Vote as VoteLayer};
 ghost use Rattle.recordings.specs.Files.{roundSize, checked, roundBreach, playBreach, recordsAfter, playAnswer, playedOne, playedFrom, endedBy};
+use crate::bytes::is_marked;
+use crate::bytes::read_u64;
+use crate::bytes::read_words;
+use crate::faults::FileFault;
+use crate::faults::RecordFault;
 use ballots::Ballot;
 use heads::head::Head;
 use heads::method::Method;
@@ -21,11 +26,6 @@ use votes::stages::HeardRound;
 use votes::stages::OpenRound;
 use votes::stages::Roll;
 use votes::stages::Vote;
-use crate::bytes::is_marked;
-use crate::bytes::read_u64;
-use crate::bytes::read_words;
-use crate::faults::FileFault;
-use crate::faults::RecordFault;
 
 pub impl From<VoteFault> for RecordFault as RecordFromFault {
     ghost converts = { λ e r. r ≡ VoteLayer e };
@@ -80,7 +80,13 @@ fn check_round(bytes: &[u8], at: usize, n: usize) -> Result<(), RecordFault>
 }
 
 // Plays the round record at a place; its hear words are read into words.
-pub fn play_round<B: Ballot, V: Method<B> + Drop>(vote: Vote<V>, table: &mut [Head<B>], words: &mut [u64], bytes: &[u8], at: usize) -> Result<HeardRound<V>, RecordFault>
+pub fn play_round<B: Ballot, V: Method<B> + Drop>(
+    vote: Vote<V>,
+    table: &mut [Head<B>],
+    words: &mut [u64],
+    bytes: &[u8],
+    at: usize,
+) -> Result<HeardRound<V>, RecordFault>
     requires { ⌜ length (now words) ≡ vote .n ⌝ ∗ ⌜ at ≤ length (now bytes) ⌝ }
     ensures whole { λ r. ⌜ made r (λ _. at + roundSize (vote .n) ≤ length (now (bytes .entry))) ⌝ }
     ensures answer { λ r. ⌜ playAnswer r ≡ playedOne earlier (V·Method .scheme) vote (now (bytes .entry)) at (now (table .entry)) ⌝ }
@@ -89,11 +95,25 @@ pub fn play_round<B: Ballot, V: Method<B> + Drop>(vote: Vote<V>, table: &mut [He
     check_round(bytes, at, words.len())?;
     read_words(bytes, at + 26, words);
     let open = vote.open(table, read_u64(bytes, at + 2))?;
-    Ok(open.hear(table, words, read_u64(bytes, at + 18), read_u64(bytes, at + 10))?)
+    Ok(
+        open.hear(
+            table,
+            words,
+            read_u64(bytes, at + 18),
+            read_u64(bytes, at + 10),
+        )?,
+    )
 }
 
 // Plays the rounds from a place on; the figures of those heard go into rounds. The answer is the fault that ended it.
-pub fn play_rounds<B: Ballot, V: Method<B> + Drop>(start: Vote<V>, table: &mut [Head<B>], words: &mut [u64], bytes: &[u8], from: usize, rounds: &mut Vec<Figures>) -> Result<Option<FileFault>, AllocError>
+pub fn play_rounds<B: Ballot, V: Method<B> + Drop>(
+    start: Vote<V>,
+    table: &mut [Head<B>],
+    words: &mut [u64],
+    bytes: &[u8],
+    from: usize,
+    rounds: &mut Vec<Figures>,
+) -> Result<Option<FileFault>, AllocError>
     requires { ⌜ length (now words) ≡ start .n ⌝ ∗ ⌜ start .heard ≡ 0 ⌝ ∗ ⌜ from ≤ length (now bytes) ⌝ ∗ ⌜ vec-items (now rounds) ≡ [] ⌝ }
     ensures { λ r. ⌜ made r (λ f. playedFrom earlier (V·Method .scheme) (start .n) (now (bytes .entry)) (length (now (bytes .entry))) from (going [] (now (table .entry))) ≡ endedBy f (vec-items (now (rounds .exit))) (now (table .exit))) ⌝ }
 {
@@ -102,7 +122,10 @@ pub fn play_rounds<B: Ballot, V: Method<B> + Drop>(start: Vote<V>, table: &mut [
     while at < bytes.len() {
         match play_round(vote, table, words, bytes, at) {
             Ok(heard) => {
-                let HeardRound { vote: next, figures } = heard;
+                let HeardRound {
+                    vote: next,
+                    figures,
+                } = heard;
                 rounds.push(figures)?;
                 vote = next;
                 at += 26 + 8 * words.len();

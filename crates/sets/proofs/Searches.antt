@@ -94,8 +94,8 @@ found-step p a k i false t rest e =
       passed = λ j h l. ⊎-elim (λ s. subst (λ (m : ℕ). p m ≡ false) s t) (λ m. f .passed j (omega arith) l) (at-or-above a j h);
     }
   where
-  at-or-above : (a j : ℕ) → a ≤ j → (a ≡ j) ⊎ (a < j)
-  at-or-above a j h = ⊎-elim inl (⊎-elim inr (λ l. absurd (omega arith))) (cases-order a j)
+    at-or-above : (a j : ℕ) → a ≤ j → (a ≡ j) ⊎ (a < j)
+    at-or-above a j h = ⊎-elim inl (⊎-elim inr (λ l. absurd (omega arith))) (cases-order a j)
 
 pub lowest-some : (p : ℕ → Bool) (a k i : ℕ) → lowestFrom p a k ≡ Some i → Found p a k i
 unfolding firstFrom

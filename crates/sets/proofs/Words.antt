@@ -57,8 +57,8 @@ same-bits zero a b ha hb h = omega arith
 same-bits (suc n) a b ha hb h =
     let low : a % 2 ≡ b % 2 = sym (bit-first a) ∙ ap (λ (t : Bool). cond t 1 0) (h 0 (omega arith)) ∙ bit-first b in
     let high : a / 2 ≡ b / 2 =
-        same-bits n (a / 2) (b / 2) (shr-below a n 1 (rw add-one ha)) (shr-below b n 1 (rw add-one hb))
-          (λ i k. bit-rest a i ∙ h (suc i) (omega arith) ∙ sym (bit-rest b i)) in
+    same-bits n (a / 2) (b / 2) (shr-below a n 1 (rw add-one ha)) (shr-below b n 1 (rw add-one hb))
+    (λ i k. bit-rest a i ∙ h (suc i) (omega arith) ∙ sym (bit-rest b i)) in
     omega arith
 
 -- no bit past a word's end
@@ -112,8 +112,8 @@ bit-word (suc n) p i h =
     let next = rw (add-one n) at (word-next n p) in
     ap (λ (w : ℕ). bit w i) next
     ∙ ⊎-elim (λ l. lower (p n) (wordOf n p) n i l ∙ bit-word n p i l)
-        (λ l. let e : n ≡ i = omega arith in subst (λ (k : ℕ). bit (cond (p n) (bitOr (wordOf n p) (2 ^ n)) (wordOf n p)) k ≡ p k) e (last (p n) (wordOf n p) n (word-below n p)))
-        (cases-lt i n)
+    (λ l. let e : n ≡ i = omega arith in subst (λ (k : ℕ). bit (cond (p n) (bitOr (wordOf n p) (2 ^ n)) (wordOf n p)) k ≡ p k) e (last (p n) (wordOf n p) n (word-below n p)))
+    (cases-lt i n)
 
 -- so the heads of a test are counted by its word
 pub count-word : (n : ℕ) (p : ℕ → Bool) → count n (bit (wordOf n p)) ≡ count n p
@@ -151,14 +151,14 @@ unfolding trailingZeros
 trailing-low zero w i h = absurd (not-suc-le-zero h)
 trailing-low (suc k) w i h =
     under-low (w % 2) k (trailingZeros k (w / 2)) (bit w) (mod-lt w (omega arith)) (bit-low w)
-      (λ j l. sym (bit-rest w j) ∙ trailing-low k (w / 2) j l) i h
+    (λ j l. sym (bit-rest w j) ∙ trailing-low k (w / 2) j l) i h
 
 pub trailing-at : (k w : ℕ) → trailingZeros k w < k → bit w (trailingZeros k w) ≡ true
 unfolding trailingZeros
 trailing-at zero w h = absurd (not-suc-le-zero h)
 trailing-at (suc k) w h =
     under-at (w % 2) k (trailingZeros k (w / 2)) (bit w) (mod-lt w (omega arith)) (bit-low w)
-      (λ l. sym (bit-rest w (trailingZeros k (w / 2))) ∙ trailing-at k (w / 2) l) h
+    (λ l. sym (bit-rest w (trailingZeros k (w / 2))) ∙ trailing-at k (w / 2) l) h
 
 -- a word with the bits of a test is the word of that test
 pub word-is : (n w : ℕ) (p : ℕ → Bool) → w < 2 ^ n → ((i : ℕ) → i < n → bit w i ≡ p i) → w ≡ wordOf n p

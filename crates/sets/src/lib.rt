@@ -41,5 +41,9 @@ pub fn next(set: u64, i: usize) -> Option<usize>
         return None;
     }
     let skipped = (set >> i).trailing_zeros() as usize;
-    if i + skipped < 64 { Some(i + skipped) } else { None }
+    if i + skipped < 64 {
+        Some(i + skipped)
+    } else {
+        None
+    }
 }

@@ -30,8 +30,8 @@ pub no-stranger : (senders round word i : ℕ) → ((j : ℕ) → j < 64 → (bi
 no-stranger senders round word i none =
     left-all _ f 64 64 (omega arith) (left-skip f 64 0 64 (omega arith) (λ j h. when-false _ _ (none (0 + j) (omega arith))))
   where
-  f : ℕ → Option Breach
-  f = stranger senders round word i
+    f : ℕ → Option Breach
+    f = stranger senders round word i
 
 some-first : (o : Option VoteFault) (b : Option Breach) → isSome o ≡ true → orElse (faultBreach o) b ≡ faultBreach o
 some-first (Some f) b e = refl

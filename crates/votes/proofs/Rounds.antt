@@ -66,7 +66,7 @@ keeps-forgets (split w code back) round heard ballots h e = absurd (true≢false
 passes : {B : Type 0} (s : Scheme B) (senders round word : ℕ) (alarm stop : Bool) (ballots : Ballots B) (state : State) (h : Head B)
     → ofBallots s round ≡ true → h .state ≡ state
     → stepped s round stop (recalls s senders round word alarm (noted stop ballots state h .ballots)) (noted stop ballots state h .state) (noted stop ballots state h)
-      ≡ stepped s round stop (recalls s senders round word alarm ballots) state h
+    ≡ stepped s round stop (recalls s senders round word alarm ballots) state h
 passes s senders round word alarm true ballots Running h ob e = rw e
 passes s senders round word alarm false ballots Running h ob e =
     ap (λ (st : State). stepped s round false (recalls s senders round word alarm ballots) st (with-ballots ballots h)) e
@@ -85,7 +85,7 @@ unfolding after
 one-round earlier s n senders round hs q true e =
     rewrite-twice (noteAt earlier hs (q .words) (q .stops)) (takeAt s senders round q) 0 n hs
     ∙ rewrite-same _ (stepAt earlier s senders round hs q)
-        (λ i h. passes s senders round (getD (q .words) i 0) (bit (q .alarms) i) (bit (q .stops) i) (ballotsOf earlier hs (getD (q .words) i 0)) (h .state) h e refl) 0 n hs
+    (λ i h. passes s senders round (getD (q .words) i 0) (bit (q .alarms) i) (bit (q .stops) i) (ballotsOf earlier hs (getD (q .words) i 0)) (h .state) h e refl) 0 n hs
 one-round earlier s n senders round hs q false e =
     rewrite-same (takeAt s senders round q) (stepAt earlier s senders round hs q)
-      (λ i h. pass-one s senders round (getD (q .words) i 0) (bit (q .alarms) i) (bit (q .stops) i) (ballotsOf earlier hs (getD (q .words) i 0)) (h .state) h e) 0 n hs
+    (λ i h. pass-one s senders round (getD (q .words) i 0) (bit (q .alarms) i) (bit (q .stops) i) (ballotsOf earlier hs (getD (q .words) i 0)) (h .state) h e) 0 n hs

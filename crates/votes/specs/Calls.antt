@@ -124,8 +124,8 @@ openAnswer (Err e) = refused (voteBreach (e .fault)) (e .back)
 abbrev pub opened : {V B : Type 0} → Scheme B → Vote V → List (Head B) → ℕ → Answer (Opened V) (Vote V)
 opened s vote hs turns =
     unless (openBreach (vote .n) (vote .heard + 1) hs turns)
-      (record { n = vote .n; heard = vote .heard; method = vote .method; senders = senders s (vote .heard + 1) hs (vote .n) turns; spent = false })
-      vote
+    (record { n = vote .n; heard = vote .heard; method = vote .method; senders = senders s (vote .heard + 1) hs (vote .n) turns; spent = false })
+    vote
 
 -- ---- withdrawing
 
@@ -157,8 +157,8 @@ hearAnswer (Err e) = refused (voteBreach (e .fault)) (e .back)
 abbrev pub heard : {V B : Type 0} → (B → B → Bool) → Scheme B → OpenRound V → List (Head B) → Report → Answer (Begun V × Figures) (OpenRound V)
 heard earlier s o hs q =
     unless (hearBreach s (o .n) (o .heard + 1) (o .senders) hs q)
-      (record { n = o .n; heard = o .heard + 1; method = o .method }, figuresOf (o .n) (o .heard + 1) (o .senders) (q .alarms) (after earlier s (o .n) (o .senders) (o .heard + 1) hs q))
-      o
+    (record { n = o .n; heard = o .heard + 1; method = o .method }, figuresOf (o .n) (o .heard + 1) (o .senders) (q .alarms) (after earlier s (o .n) (o .senders) (o .heard + 1) hs q))
+    o
 
 abbrev pub heardTable : {V B : Type 0} → (B → B → Bool) → Scheme B → OpenRound V → List (Head B) → Report → List (Head B)
 heardTable earlier s o hs q =
@@ -187,8 +187,8 @@ stillRunning None = None
 abbrev pub closed : {V B : Type 0} → Vote V → List (Head B) → Answer (Option B) (Vote V)
 closed vote hs =
     unless (orElse (shortTable (vote .n) hs) (stillRunning (lowest (bit (running hs (vote .n))) 64)))
-      (first (λ i. ballotOf (nth hs i)) (vote .n))
-      vote
+    (first (λ i. ballotOf (nth hs i)) (vote .n))
+    vote
 
 abbrev pub standingAs : {B : Type 0} → State → B → Standing B
 standingAs Running b = standing.Running

@@ -7,8 +7,8 @@ ghost use Rattle.sets.specs.Sets.{bit};
 ghost use Rattle.heads.specs.Rules.{due, strict, false-alarm};
 ghost use Rattle.votes.specs.Rounds.{sent, heardOf, idleNoise, lateBreach, reportBreach};
 ghost use Rattle.votes.specs.Calls.{faultBreach};
-use heads::method::Method;
 use crate::faults::VoteFault;
+use heads::method::Method;
 
 // Whether a head that does not run hears something or is alarmed.
 fn idle_noise(runs: bool, word: u64, alarm: bool) -> bool
@@ -60,7 +60,16 @@ fn refused_alarm<B, V: Method<B>>(method: V, c: u32, t: u32, alarm: bool) -> boo
 }
 
 // The rule that a head breaks whose word has senders alone; c heads sent.
-fn late_breach<B, V: Method<B>>(method: V, senders: u64, c: u32, round: u32, runs: bool, word: u64, alarm: bool, head: usize) -> Option<VoteFault>
+fn late_breach<B, V: Method<B>>(
+    method: V,
+    senders: u64,
+    c: u32,
+    round: u32,
+    runs: bool,
+    word: u64,
+    alarm: bool,
+    head: usize,
+) -> Option<VoteFault>
     requires { ⌜ c ≡ sent senders ⌝ }
     ensures { λ r. ⌜ faultBreach r ≡ lateBreach (V·Method .scheme) senders round runs word alarm head ⌝ }
 {
@@ -85,7 +94,14 @@ fn word_at(words: &[u64], head: usize) -> u64
 }
 
 // The first rule that a report breaks, heads 0 to 63 in order.
-pub fn report_breach<B, V: Method<B>>(method: V, running: u64, senders: u64, round: u32, words: &[u64], alarms: u64) -> Option<VoteFault>
+pub fn report_breach<B, V: Method<B>>(
+    method: V,
+    running: u64,
+    senders: u64,
+    round: u32,
+    words: &[u64],
+    alarms: u64,
+) -> Option<VoteFault>
     ensures { λ r. ⌜ faultBreach r ≡ reportBreach (V·Method .scheme) running senders round (now (words .entry)) alarms ⌝ }
 {
     let c = sets::size(senders);

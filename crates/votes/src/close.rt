@@ -6,14 +6,14 @@ ghost use Rattle.std.specs.Finite.{nth};
 ghost use Rattle.std.specs.declared.option.Option.the-variants.{Some};
 ghost use Rattle.sets.specs.Search.{first};
 ghost use Rattle.votes.specs.Calls.{ballotOf, closeAnswer, closed, standingOf, standingAt, asked};
-use heads::head::Head;
-use heads::head::State;
 use crate::faults::Refused;
 use crate::faults::VoteFault;
 use crate::stages::Closed;
 use crate::stages::Standing;
 use crate::stages::Vote;
 use crate::tables::in_state;
+use heads::head::Head;
+use heads::head::State;
 
 // The ballot that a head has decided, if it has.
 fn decided<B: Copy>(h: Head<B>) -> Option<B>
@@ -56,7 +56,11 @@ fn standing_at<B: Copy>(table: &[Head<B>], n: usize, i: usize) -> Standing<B>
     requires { ⌜ n ≤ length (now table) ⌝ }
     ensures { λ r. ⌜ r ≡ standingAt (now (table .entry)) n i ⌝ }
 {
-    if i < n { standing(table[i]) } else { Standing::NoSuchHead }
+    if i < n {
+        standing(table[i])
+    } else {
+        Standing::NoSuchHead
+    }
 }
 
 impl<V: Drop> Vote<V> {
@@ -65,12 +69,20 @@ impl<V: Drop> Vote<V> {
         ensures { λ r. ⌜ closeAnswer r ≡ closed self (now (table .entry)) ⌝ }
     {
         if table.len() < self.n {
-            return Err(Refused { back: self, fault: VoteFault::ShortTable });
+            return Err(Refused {
+                back: self,
+                fault: VoteFault::ShortTable,
+            });
         }
         if let Some(head) = sets::next(in_state(table, self.n, State::Running), 0) {
-            return Err(Refused { back: self, fault: VoteFault::StillRuns { head } });
+            return Err(Refused {
+                back: self,
+                fault: VoteFault::StillRuns { head },
+            });
         }
-        Ok(Closed { ballot: lowest_decided(table, self.n) })
+        Ok(Closed {
+            ballot: lowest_decided(table, self.n),
+        })
     }
 
     // How a head stands; a number from the roll's length on names none.

@@ -3,14 +3,14 @@ ghost use mathlib.Core.Path.{_≡_};
 ghost use mathlib.Core.Bool.{false};
 ghost use Prim.Native.Nat.{_<_};
 ghost use Rattle.votes.specs.Calls.{full, rollAnswer, enrolled, enrolledTable, beginAnswer, begun};
-use heads::head::Ballots;
-use heads::head::Head;
-use heads::head::Prefix;
-use heads::head::State;
 use crate::faults::Refused;
 use crate::faults::VoteFault;
 use crate::stages::Roll;
 use crate::stages::Vote;
+use heads::head::Ballots;
+use heads::head::Head;
+use heads::head::Prefix;
+use heads::head::State;
 
 // Whether the roll or the table has no room for a head more.
 fn is_full(n: usize, room: usize) -> bool
@@ -34,13 +34,19 @@ impl Roll {
         ensures table { λ _. ⌜ now (table .exit) ≡ enrolledTable self (now (table .entry)) ballot ⌝ }
     {
         if is_full(self.n, table.len()) {
-            return Err(Refused { back: self, fault: VoteFault::RollFull });
+            return Err(Refused {
+                back: self,
+                fault: VoteFault::RollFull,
+            });
         }
         table[self.n] = Head {
             state: State::Running,
             first: ballot,
             estimate: ballot,
-            ballots: Ballots { least: None, differ: false },
+            ballots: Ballots {
+                least: None,
+                differ: false,
+            },
             flag: true,
             prefix: Prefix { bits: 0, length: 0 },
             noise: false,
@@ -50,12 +56,20 @@ impl Roll {
 
     // The vote of the heads enrolled, by one of the methods.
     pub fn begin<V>(self, method: V) -> Result<Vote<V>, Refused<Roll>>
-        where V: Drop
+    where
+        V: Drop,
         ensures { λ r. ⌜ beginAnswer r ≡ begun self method ⌝ }
     {
         if self.n == 0 {
-            return Err(Refused { back: self, fault: VoteFault::NoHeads });
+            return Err(Refused {
+                back: self,
+                fault: VoteFault::NoHeads,
+            });
         }
-        Ok(Vote { n: self.n, heard: 0, method })
+        Ok(Vote {
+            n: self.n,
+            heard: 0,
+            method,
+        })
     }
 }

@@ -13,29 +13,61 @@ pub enum VoteFault {
     // 4: the table is shorter than the roll
     ShortTable,
     // 5: 10,000 rounds are heard
-    RoundsSpent { round: u32 },
+    RoundsSpent {
+        round: u32,
+    },
     // 6: no head runs
-    NoneRuns { round: u32 },
+    NoneRuns {
+        round: u32,
+    },
     // 7: a turn for a head that does not run
-    IdleTurn { round: u32, head: usize },
+    IdleTurn {
+        round: u32,
+        head: usize,
+    },
     // 8: not one hear word for each head
-    WordCount { round: u32 },
+    WordCount {
+        round: u32,
+    },
     // 9: a stop of a head that does not run
-    IdleStop { round: u32, head: usize },
+    IdleStop {
+        round: u32,
+        head: usize,
+    },
     // 10: a message heard or an alarm at a head that does not run
-    IdleNoise { round: u32, head: usize },
+    IdleNoise {
+        round: u32,
+        head: usize,
+    },
     // 11: a head heard one that did not send
-    NotSender { round: u32, head: usize, other: usize },
+    NotSender {
+        round: u32,
+        head: usize,
+        other: usize,
+    },
     // 12: a sender did not hear itself
-    OwnUnheard { round: u32, head: usize },
+    OwnUnheard {
+        round: u32,
+        head: usize,
+    },
     // 13: an alarm that is due is absent
-    AlarmMissing { round: u32, head: usize },
+    AlarmMissing {
+        round: u32,
+        head: usize,
+    },
     // 14: a false alarm in a vote that refuses it
-    FalseAlarm { round: u32, head: usize },
+    FalseAlarm {
+        round: u32,
+        head: usize,
+    },
     // 15: 10,000 rounds are heard
-    HearingSpent { round: u32 },
+    HearingSpent {
+        round: u32,
+    },
     // 16: a head still runs
-    StillRuns { head: usize },
+    StillRuns {
+        head: usize,
+    },
 }
 
 // A refused call hands back what it was given, with the fault.

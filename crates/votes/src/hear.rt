@@ -4,10 +4,6 @@ ghost use Prim.Native.Nat.{_≤_};
 ghost use lib.ListN.{length};
 ghost use Rattle.std.specs.Options.{Cases as BySome};
 ghost use Rattle.votes.specs.Calls.{faultBreach, hearBreach, figuresOf, hearAnswer, heard, heardTable};
-use ballots::Ballot;
-use heads::head::Head;
-use heads::head::State;
-use heads::method::Method;
 use crate::checks::report_breach;
 use crate::faults::Refused;
 use crate::faults::VoteFault;
@@ -18,6 +14,10 @@ use crate::stages::Vote;
 use crate::steps::advance;
 use crate::tables::in_state;
 use crate::tables::lowest_idle;
+use ballots::Ballot;
+use heads::head::Head;
+use heads::head::State;
+use heads::method::Method;
 
 // The figures of a heard round, from the records after it.
 fn figures<B: Copy>(table: &[Head<B>], n: usize, round: u32, senders: u64, alarms: u64) -> Figures
@@ -34,7 +34,16 @@ fn figures<B: Copy>(table: &[Head<B>], n: usize, round: u32, senders: u64, alarm
 }
 
 // The first rule that a hearing breaks.
-fn hearing_breach<B: Copy, V: Method<B>>(method: V, n: usize, round: u32, senders: u64, table: &[Head<B>], words: &[u64], alarms: u64, stops: u64) -> Option<VoteFault>
+fn hearing_breach<B: Copy, V: Method<B>>(
+    method: V,
+    n: usize,
+    round: u32,
+    senders: u64,
+    table: &[Head<B>],
+    words: &[u64],
+    alarms: u64,
+    stops: u64,
+) -> Option<VoteFault>
     requires { ⌜ n ≤ 64 ⌝ }
     ensures accepted { λ r. ⌜ BySome r ((round ≤ 10000) × (n ≤ length (now (table .entry))) × (length (now (words .entry)) ≡ n)) (λ _. Unit {0}) ⌝ }
     ensures value { λ r. ⌜ faultBreach r ≡ hearBreach (V·Method .scheme) n round senders (now (table .entry)) (record { words = now (words .entry); alarms = alarms; stops = stops }) ⌝ }
@@ -57,18 +66,50 @@ fn hearing_breach<B: Copy, V: Method<B>>(method: V, n: usize, round: u32, sender
 
 impl<V: Drop> OpenRound<V> {
     // The report of the round: a hear word for each head, the heads alarmed and the heads that stop.
-    pub fn hear<B: Ballot>(mut self, table: &mut [Head<B>], words: &[u64], alarms: u64, stops: u64) -> Result<HeardRound<V>, Refused<OpenRound<V>>>
-        where V: Method<B>
+    pub fn hear<B: Ballot>(
+        mut self,
+        table: &mut [Head<B>],
+        words: &[u64],
+        alarms: u64,
+        stops: u64,
+    ) -> Result<HeardRound<V>, Refused<OpenRound<V>>>
+    where
+        V: Method<B>,
         ensures answer { λ r. ⌜ hearAnswer r ≡ heard (B·Ballot .earlier) (V·Method .scheme) self (now (table .entry)) (record { words = now (words .entry); alarms = alarms; stops = stops }) ⌝ }
         ensures table { λ _. ⌜ now (table .exit) ≡ heardTable (B·Ballot .earlier) (V·Method .scheme) self (now (table .entry)) (record { words = now (words .entry); alarms = alarms; stops = stops }) ⌝ }
     {
         let round = self.heard + 1;
-        if let Some(fault) = hearing_breach(self.method, self.n, round, self.senders, table, words, alarms, stops) {
+        if let Some(fault) = hearing_breach(
+            self.method,
+            self.n,
+            round,
+            self.senders,
+            table,
+            words,
+            alarms,
+            stops,
+        ) {
             return Err(Refused { back: self, fault });
         }
-        advance(self.method, self.n, self.senders, round, table, words, alarms, stops);
+        advance(
+            self.method,
+            self.n,
+            self.senders,
+            round,
+            table,
+            words,
+            alarms,
+            stops,
+        );
         self.spent = true;
         let figures = figures(table, self.n, round, self.senders, alarms);
-        Ok(HeardRound { vote: Vote { n: self.n, heard: round, method: self.method }, figures })
+        Ok(HeardRound {
+            vote: Vote {
+                n: self.n,
+                heard: round,
+                method: self.method,
+            },
+            figures,
+        })
     }
 }

@@ -1,13 +1,14 @@
 // A vote from the roll to its close.
 pub mod faults;
-pub mod stages;
 pub mod refusals;
+pub mod stages;
 mod tables;
 
 pub use tables::senders_are_counted;
+
 mod checks;
-mod steps;
-mod enroll;
-mod open;
-mod hear;
 mod close;
+mod enroll;
+mod hear;
+mod open;
+mod steps;

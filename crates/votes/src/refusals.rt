@@ -4,10 +4,10 @@ ghost use Rattle.ballots.specs.Faults.{numbered as rule, inRound, atHead};
 ghost use Rattle.ballots.specs.Kinds.{fromCode};
 ghost use Rattle.votes.specs.Faults.{voteBreach, refusalBreach, ballotFrom};
 ghost use Rattle.votes.specs.declared.faults.VoteFault.the-variants.{Ballot};
-use ballots::Coded;
-use ballots::faults::BallotFault;
 use crate::faults::Refusal;
 use crate::faults::VoteFault;
+use ballots::Coded;
+use ballots::faults::BallotFault;
 
 pub impl From<BallotFault> for VoteFault as VoteFromBallot {
     ghost converts = { λ e r. r ≡ Ballot e };
@@ -27,19 +27,34 @@ pub fn ballot_of<B: Coded>(code: u16) -> Result<B, VoteFault>
 fn numbered(number: u32) -> Refusal
     ensures { λ r. ⌜ refusalBreach r ≡ rule number ⌝ }
 {
-    Refusal { number, round: None, head: None, other: None }
+    Refusal {
+        number,
+        round: None,
+        head: None,
+        other: None,
+    }
 }
 
 fn in_round(number: u32, round: u32) -> Refusal
     ensures { λ r. ⌜ refusalBreach r ≡ inRound number round ⌝ }
 {
-    Refusal { number, round: Some(round as usize), head: None, other: None }
+    Refusal {
+        number,
+        round: Some(round as usize),
+        head: None,
+        other: None,
+    }
 }
 
 fn at_head(number: u32, round: u32, head: usize) -> Refusal
     ensures { λ r. ⌜ refusalBreach r ≡ atHead number round head ⌝ }
 {
-    Refusal { number, round: Some(round as usize), head: Some(head), other: None }
+    Refusal {
+        number,
+        round: Some(round as usize),
+        head: Some(head),
+        other: None,
+    }
 }
 
 impl VoteFault {
@@ -58,12 +73,22 @@ impl VoteFault {
             VoteFault::WordCount { round } => in_round(8, round),
             VoteFault::IdleStop { round, head } => at_head(9, round, head),
             VoteFault::IdleNoise { round, head } => at_head(10, round, head),
-            VoteFault::NotSender { round, head, other } => Refusal { number: 11, round: Some(round as usize), head: Some(head), other: Some(other) },
+            VoteFault::NotSender { round, head, other } => Refusal {
+                number: 11,
+                round: Some(round as usize),
+                head: Some(head),
+                other: Some(other),
+            },
             VoteFault::OwnUnheard { round, head } => at_head(12, round, head),
             VoteFault::AlarmMissing { round, head } => at_head(13, round, head),
             VoteFault::FalseAlarm { round, head } => at_head(14, round, head),
             VoteFault::HearingSpent { round } => in_round(15, round),
-            VoteFault::StillRuns { head } => Refusal { number: 16, round: None, head: Some(head), other: None },
+            VoteFault::StillRuns { head } => Refusal {
+                number: 16,
+                round: None,
+                head: Some(head),
+                other: None,
+            },
         }
     }
 }

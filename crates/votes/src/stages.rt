@@ -35,7 +35,13 @@ impl<V: Drop> Drop for OpenRound<V> {
     fn drop(self)
         requires { ⌜ self .spent ≡ true ⌝ }
     {
-        let OpenRound { n: _, heard: _, method: _, senders: _, spent: _ } = self;
+        let OpenRound {
+            n: _,
+            heard: _,
+            method: _,
+            senders: _,
+            spent: _,
+        } = self;
     }
 }
 

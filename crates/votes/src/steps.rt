@@ -6,6 +6,7 @@ ghost use Rattle.heads.specs.Heard.{ballotsOf};
 ghost use Rattle.votes.specs.Rounds.{Report, stepped, after};
 ghost use Rattle.votes.specs.Passes.{noted, listened, recalls, takeAt};
 ghost use Rattle.votes.specs.Tables.{rewrite};
+use crate::checks::heard_of;
 use ballots::Ballot;
 use heads::ballots_heard::ballots_heard;
 use heads::head::Ballots;
@@ -13,7 +14,6 @@ use heads::head::Head;
 use heads::head::Heard;
 use heads::head::State;
 use heads::method::Method;
-use crate::checks::heard_of;
 
 // A running head that does not stop notes the ballots that it heard.
 fn note<B: Copy>(stop: bool, ballots: Ballots<B>, h: Head<B>) -> Head<B>
@@ -27,15 +27,30 @@ fn note<B: Copy>(stop: bool, ballots: Ballots<B>, h: Head<B>) -> Head<B>
 }
 
 // The ballots heard with a hear word, by those heard with another that is often the same.
-fn heard_again<B: Ballot>(table: &[Head<B>], word: u64, last: u64, ballots: Ballots<B>) -> Ballots<B>
+fn heard_again<B: Ballot>(
+    table: &[Head<B>],
+    word: u64,
+    last: u64,
+    ballots: Ballots<B>,
+) -> Ballots<B>
     requires { ⌜ ballots ≡ ballotsOf earlier (now table) last ⌝ }
     ensures { λ r. ⌜ r ≡ ballotsOf earlier (now (table .entry)) word ⌝ }
 {
-    if word == last { ballots } else { ballots_heard(table, word) }
+    if word == last {
+        ballots
+    } else {
+        ballots_heard(table, word)
+    }
 }
 
 // In a round of ballots every head notes what it heard; the estimates stay.
-fn listen<B: Ballot, V: Method<B>>(method: V, round: u32, table: &mut [Head<B>], words: &[u64], stops: u64)
+fn listen<B: Ballot, V: Method<B>>(
+    method: V,
+    round: u32,
+    table: &mut [Head<B>],
+    words: &[u64],
+    stops: u64,
+)
     requires { ⌜ length (now words) ≤ length (now table) ⌝ }
     ensures { λ _. ⌜ now (table .exit) ≡ listened earlier (V·Method .scheme) (length (now (words .entry))) round (now (table .entry)) (now (words .entry)) stops ⌝ }
 {
@@ -43,7 +58,10 @@ fn listen<B: Ballot, V: Method<B>>(method: V, round: u32, table: &mut [Head<B>],
         return;
     }
     let mut word = 0;
-    let mut ballots = Ballots { least: None, differ: false };
+    let mut ballots = Ballots {
+        least: None,
+        differ: false,
+    };
     for i in 0..words.len() {
         ballots = heard_again(table, words[i], word, ballots);
         word = words[i];
@@ -53,42 +71,97 @@ fn listen<B: Ballot, V: Method<B>>(method: V, round: u32, table: &mut [Head<B>],
 }
 
 // What a head hears, with the ballots that its record has noted.
-fn recall<B: Copy, V: Method<B>>(method: V, senders: u64, round: u32, word: u64, alarm: bool, ballots: Ballots<B>) -> Heard<B>
+fn recall<B: Copy, V: Method<B>>(
+    method: V,
+    senders: u64,
+    round: u32,
+    word: u64,
+    alarm: bool,
+    ballots: Ballots<B>,
+) -> Heard<B>
     ensures { λ r. ⌜ r ≡ recalls (V·Method .scheme) senders round word alarm ballots ⌝ }
 {
     let count = heard_of(senders, word);
     if method.of_ballots(round) {
-        Heard { count, ballots, alarm }
+        Heard {
+            count,
+            ballots,
+            alarm,
+        }
     } else {
-        Heard { count, ballots: Ballots { least: None, differ: false }, alarm }
+        Heard {
+            count,
+            ballots: Ballots {
+                least: None,
+                differ: false,
+            },
+            alarm,
+        }
     }
 }
 
 // One head's record after the round: only a running head takes a step.
-fn step<B: Copy, V: Method<B>>(method: V, round: u32, stop: bool, heard: Heard<B>, h: Head<B>) -> Head<B>
+fn step<B: Copy, V: Method<B>>(
+    method: V,
+    round: u32,
+    stop: bool,
+    heard: Heard<B>,
+    h: Head<B>,
+) -> Head<B>
     ensures { λ r. ⌜ r ≡ stepped (V·Method .scheme) round stop heard (h .state) h ⌝ }
 {
     match h.state {
-        State::Running => if stop { Head { state: State::Stopped, ..h } } else { method.keeps(round, heard, h) },
+        State::Running => if stop {
+            Head {
+                state: State::Stopped,
+                ..h
+            }
+        } else {
+            method.keeps(round, heard, h)
+        },
         State::Decided => h,
         State::Stopped => h,
     }
 }
 
 // Every head goes on from its own record.
-fn step_all<B: Copy, V: Method<B>>(method: V, senders: u64, round: u32, table: &mut [Head<B>], words: &[u64], alarms: u64, stops: u64)
+fn step_all<B: Copy, V: Method<B>>(
+    method: V,
+    senders: u64,
+    round: u32,
+    table: &mut [Head<B>],
+    words: &[u64],
+    alarms: u64,
+    stops: u64,
+)
     requires { ⌜ length (now words) ≤ length (now table) ⌝ }
     ensures { λ _. ⌜ now (table .exit) ≡ rewrite (takeAt (V·Method .scheme) senders round (record { words = now (words .entry); alarms = alarms; stops = stops })) (length (now (words .entry))) (now (table .entry)) ⌝ }
 {
     for i in 0..words.len() {
         let h = table[i];
-        let heard = recall(method, senders, round, words[i], sets::has(alarms, i), h.ballots);
+        let heard = recall(
+            method,
+            senders,
+            round,
+            words[i],
+            sets::has(alarms, i),
+            h.ballots,
+        );
         table[i] = step(method, round, sets::has(stops, i), heard, h);
     }
 }
 
 // The records after the round.
-pub fn advance<B: Ballot, V: Method<B>>(method: V, n: usize, senders: u64, round: u32, table: &mut [Head<B>], words: &[u64], alarms: u64, stops: u64)
+pub fn advance<B: Ballot, V: Method<B>>(
+    method: V,
+    n: usize,
+    senders: u64,
+    round: u32,
+    table: &mut [Head<B>],
+    words: &[u64],
+    alarms: u64,
+    stops: u64,
+)
     requires { ⌜ length (now words) ≡ n ⌝ ∗ ⌜ n ≤ length (now table) ⌝ }
     ensures { λ _. ⌜ now (table .exit) ≡ after earlier (V·Method .scheme) n senders round (now (table .entry)) (record { words = now (words .entry); alarms = alarms; stops = stops }) ⌝ }
 {

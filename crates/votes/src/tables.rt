@@ -60,7 +60,13 @@ pub fn senders_are_counted<B>() -> u8
 }
 
 // The running heads that send.
-pub fn senders_of<B: Copy, V: Method<B>>(method: V, round: u32, table: &[Head<B>], n: usize, turns: u64) -> u64
+pub fn senders_of<B: Copy, V: Method<B>>(
+    method: V,
+    round: u32,
+    table: &[Head<B>],
+    n: usize,
+    turns: u64,
+) -> u64
     requires { ⌜ n ≤ length (now table) ⌝ ∗ ⌜ n ≤ 64 ⌝ }
     ensures { λ r. ⌜ r ≡ senders (V·Method .scheme) round (now (table .entry)) n turns ⌝ }
 {

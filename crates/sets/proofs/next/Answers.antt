@@ -22,8 +22,8 @@ returns-then-i-skipped-lt64 c =
     let i = c .args .i in
     let z = trailingZeros 64 (set / 2 ^ i) in
     sym (left-found _ (λ j. when (bit set j) j) 64 (i + z) (i + z) (omega arith)
-      (when-true _ _ (sym (bit-shr set i z) ∙ trailing-at 64 (set / 2 ^ i) (omega arith)))
-      (left-skip (λ j. when (bit set j) j) 64 i z (omega arith) (passed set i)))
+    (when-true _ _ (sym (bit-shr set i z) ∙ trailing-at 64 (set / 2 ^ i) (omega arith)))
+    (left-skip (λ j. when (bit set j) j) 64 i z (omega arith) (passed set i)))
 
 pub returns-else-i-skipped-lt64 : need.returns-else-i-skipped-lt64
 returns-else-i-skipped-lt64 c =
@@ -31,4 +31,4 @@ returns-else-i-skipped-lt64 c =
     let i = c .args .i in
     let z = 64 - i in
     sym (left-all _ (λ j. when (bit set j) j) 64 (i + z) (omega arith)
-      (left-skip (λ j. when (bit set j) j) 64 i z (omega arith) (λ j k. passed set i j (omega arith))))
+    (left-skip (λ j. when (bit set j) j) 64 i z (omega arith) (λ j k. passed set i j (omega arith))))

@@ -13,4 +13,4 @@ returns c =
     let b = c .args .b in
     let rest = 18446744073709551615 - b in
     word-is 64 (bitAnd a rest) _ (omega (arith, and-le-l a rest))
-      (λ i k. bit-and a rest i ∙ ap (λ (t : Bool). bit a i && t) (bit-not 64 b i (omega arith) k))
+    (λ i k. bit-and a rest i ∙ ap (λ (t : Bool). bit a i && t) (bit-not 64 b i (omega arith) k))

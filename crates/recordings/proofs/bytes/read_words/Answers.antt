@@ -17,4 +17,4 @@ pub returns : need.returns
 unfolding wordsAt
 returns c =
     fill-by-all (λ k. number 8 (c .args .bytes .now) (c .args .at + 8 * k)) (c .loop-i .words) (length (c .args .words .now)) 0
-      (omega arith) (λ k h. c .loop-i .inv k (omega arith))
+    (omega arith) (λ k h. c .loop-i .inv k (omega arith))

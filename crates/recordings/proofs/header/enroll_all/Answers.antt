@@ -36,11 +36,12 @@ loop-i-again g c =
     let room : roll .n < length ts = omega arith in
     let f : ℕ → Head (g .B .Denot) = λ j. fresh (decoded (codeAt bytes j)) in
     let write : c .enroll .last .table ≡ set ts i (f i) =
-        c .in-Continue-roll .ensures tt .table ∙ enrolled-set roll ts h room (c .in-Continue-ballot .ballot)
-        ∙ ap₂ (λ (k : ℕ) b. set ts k (fresh b)) (c .loop-i .inv .0) (read .1 ∙ ap decoded code) in
-    ( same-done _ _ _ (c .in-Continue-roll .ensures tt .answer) (enrolled-done roll ts h room) ∙ ap (λ (k : ℕ). k + 1) (c .loop-i .inv .0)
-    , left-more _ (strange encoded decoded bytes) (c .args .n) i (omega arith) (when-false _ _ (ap not fine)) (c .loop-i .inv .1)
-    , write ∙ written-more f (c .args .table .now) ts i (omega arith) (omega arith) (c .loop-i .inv .2) )
+    c .in-Continue-roll .ensures tt .table ∙ enrolled-set roll ts h room (c .in-Continue-ballot .ballot)
+    ∙ ap₂ (λ (k : ℕ) b. set ts k (fresh b)) (c .loop-i .inv .0) (read .1 ∙ ap decoded code) in (
+      same-done _ _ _ (c .in-Continue-roll .ensures tt .answer) (enrolled-done roll ts h room) ∙ ap (λ (k : ℕ). k + 1) (c .loop-i .inv .0),
+      left-more _ (strange encoded decoded bytes) (c .args .n) i (omega arith) (when-false _ _ (ap not fine)) (c .loop-i .inv .1),
+      write ∙ written-more f (c .args .table .now) ts i (omega arith) (omega arith) (c .loop-i .inv .2),
+    )
 
 pub returns-in-Break-ballot : need.returns-in-Break-ballot
 returns-in-Break-ballot g c =
@@ -68,7 +69,8 @@ returns g c =
     let decoded = g .B·Coded .decoded in
     let bytes = c .args .bytes .now in
     let f : ℕ → Head (g .B .Denot) = λ j. fresh (decoded (codeAt bytes j)) in
-    let end : c .loop-i .i ≡ c .args .n = omega arith in
-    ( c .loop-i .inv .0 ∙ end
-    , left-all _ (strange (g .B·Coded .encoded) decoded bytes) (c .args .n) (c .loop-i .i) (omega arith) (c .loop-i .inv .1)
-    , c .loop-i .inv .2 ∙ ap (λ (k : ℕ). rewrite (λ j _. f j) k (c .args .table .now)) end ∙ written-all f (c .args .n) (c .args .table .now) (c .pre .1 .0) )
+    let end : c .loop-i .i ≡ c .args .n = omega arith in (
+      c .loop-i .inv .0 ∙ end,
+      left-all _ (strange (g .B·Coded .encoded) decoded bytes) (c .args .n) (c .loop-i .i) (omega arith) (c .loop-i .inv .1),
+      c .loop-i .inv .2 ∙ ap (λ (k : ℕ). rewrite (λ j _. f j) k (c .args .table .now)) end ∙ written-all f (c .args .n) (c .args .table .now) (c .pre .1 .0),
+    )

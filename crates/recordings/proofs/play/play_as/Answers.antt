@@ -29,7 +29,7 @@ returns g c =
     let rounds = vec-items (c .play-table .last .rounds) in
     let hs = c .play-table .last .table in
     let progress : progressOf (g .B·Ballot .earlier) encoded (g .B·Coded .decoded) (g .V·Method .scheme) (c .args .n) (c .args .bytes .now) ≡ going rounds hs =
-        c .in-Continue-ended .ensures tt ∙ ap (λ f. endedBy f rounds hs) (c .in-None .is) in
+    c .in-Continue-ended .ensures tt ∙ ap (λ f. endedBy f rounds hs) (c .in-None .is) in
     let room : length hs ≡ c .in-Continue-table .table .len = c .play-table .kept .table ∙ c .as-mut-slice .ensures .len in
     let heads : vec-items (c .in-Continue-heads .heads) ≡ map (outcomeOf encoded) hs = c .in-Continue-heads .ensures tt ∙ ap (map (outcomeOf encoded)) (c .as-slice .ensures .value ∙ refilled-is (c .in-Continue-table .table) hs room) in
     ap (played-as rounds) heads ∙ sym (ap (told encoded) progress)

@@ -17,8 +17,8 @@ returns-in-Ok g c =
     let n = c .args .n in
     let started = c .in-Ok .ensures tt in
     let same : progressOf earlier (g .B·Coded .encoded) (g .B·Coded .decoded) s n bytes ≡ playedFrom earlier s (c .in-Ok .vote .n) bytes (length bytes) (5 + 2 * n) (going [] (c .start .last .table)) =
-        ap (λ b. startedBy b (playedFrom earlier s n bytes (length bytes) (5 + 2 * n) (going [] (enrolledFrom (g .B·Coded .decoded) bytes n)))) (started .2)
-        ∙ ap₂ (λ (m : ℕ) hs. playedFrom earlier s m bytes (length bytes) (5 + 2 * n) (going [] hs)) (sym (started .0)) (sym (started .3)) in
+    ap (λ b. startedBy b (playedFrom earlier s n bytes (length bytes) (5 + 2 * n) (going [] (enrolledFrom (g .B·Coded .decoded) bytes n)))) (started .2)
+    ∙ ap₂ (λ (m : ℕ) hs. playedFrom earlier s m bytes (length bytes) (5 + 2 * n) (going [] hs)) (sym (started .0)) (sym (started .3)) in
     progressed (c .play-rounds .result) _ _ (vec-items (c .play-rounds .last .rounds)) (c .play-rounds .last .table) same (c .play-rounds .ensures)
 
 pub returns-in-Err : need.returns-in-Err

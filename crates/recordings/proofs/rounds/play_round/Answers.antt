@@ -46,7 +46,7 @@ returns-in-Break-check-round g c =
     let fault = c .in-Break-check-round .field-0 .0 in
     let p = err-from-errBy (c .from-residual .result) (c .from-residual .ensures .1) in
     let broken = by-record earlier s v bytes at hs (recordBreach fault)
-        (ap (roundBreach bytes at) (sym (c .pre .0)) ∙ sym (c .in-Break-check-round .ensures tt .value)) in
+    (ap (roundBreach bytes at) (sym (c .pre .0)) ∙ sym (c .in-Break-check-round .ensures tt .value)) in
     record {
       whole = erred-whole _ _ (p .0) (p .1);
       answer = erred (c .from-residual .result) (p .0) fault (p .1) (p .2) ∙ refused-one earlier s v bytes at hs (recordBreach fault) broken;
@@ -66,7 +66,7 @@ returns-in-Break-open g c =
     let whole : roundBreach bytes at (v .n) ≡ None = ap (roundBreach bytes at) (sym (c .pre .0)) ∙ sym (c .in-Continue-check-round .ensures tt .value) in
     let answer : refused (voteBreach (e .fault)) (e .back) ≡ opened s v hs (turnsAt bytes at) = c .in-Break-open .ensures tt ∙ ap (opened s v hs) (c .read-u64 .ensures) in
     let broken = by-opening earlier s v bytes at hs (voteBreach (e .fault)) whole
-        (unless-refused (openBreach (v .n) (v .heard + 1) hs (turnsAt bytes at)) (voteBreach (e .fault)) _ v (e .back) answer) in
+    (unless-refused (openBreach (v .n) (v .heard + 1) hs (turnsAt bytes at)) (voteBreach (e .fault)) _ v (e .back) answer) in
     record {
       whole = erred-whole _ _ (p .0) (p .1);
       answer = erred (c .from-residual-in-Break-open .result) (p .0) (fault.Vote (e .fault)) (p .1) (p .2) ∙ refused-one earlier s v bytes at hs (voteBreach (e .fault)) broken;
@@ -87,9 +87,9 @@ returns-in-Break-hear g c =
     let whole : roundBreach bytes at (v .n) ≡ None = ap (roundBreach bytes at) (sym (c .pre .0)) ∙ sym (c .in-Continue-check-round .ensures tt .value) in
     let opening : done (openedAs o) ≡ opened s v hs (turnsAt bytes at) = c .in-Continue-open .ensures tt ∙ ap (opened s v hs) (c .read-u64 .ensures) in
     let q = report-read bytes at (v .n) (length (c .args .words .now)) (c .read-words .last .words) (c .read-u64-2 .result) (c .read-u64-3 .result)
-        (c .pre .0) (c .read-words .ensures) (c .read-u64-2 .ensures) (c .read-u64-3 .ensures) in
+    (c .pre .0) (c .read-words .ensures) (c .read-u64-2 .ensures) (c .read-u64-3 .ensures) in
     let told : refused (voteBreach (e .fault)) (e .back) ≡ heard earlier s o hs (reportAt bytes at (v .n)) =
-        c .in-Break-hear .ensures tt .answer ∙ ap (heard earlier s o hs) q in
+    c .in-Break-hear .ensures tt .answer ∙ ap (heard earlier s o hs) q in
     record {
       whole = erred-whole _ _ (p .0) (p .1);
       answer = erred (c .from-residual-in-Break-hear .result) (p .0) (fault.Vote (e .fault)) (p .1) (p .2) ∙ ap forget told ∙ heard-one earlier s v bytes at hs o whole opening;
@@ -109,9 +109,9 @@ returns g c =
     let whole : roundBreach bytes at (v .n) ≡ None = ap (roundBreach bytes at) (sym (c .pre .0)) ∙ sym (c .in-Continue-check-round .ensures tt .value) in
     let opening : done (openedAs o) ≡ opened s v hs (turnsAt bytes at) = c .in-Continue-open .ensures tt ∙ ap (opened s v hs) (c .read-u64 .ensures) in
     let q = report-read bytes at (v .n) (length (c .args .words .now)) (c .read-words .last .words) (c .read-u64-2 .result) (c .read-u64-3 .result)
-        (c .pre .0) (c .read-words .ensures) (c .read-u64-2 .ensures) (c .read-u64-3 .ensures) in
+    (c .pre .0) (c .read-words .ensures) (c .read-u64-2 .ensures) (c .read-u64-3 .ensures) in
     let told : done (begunAs (h .vote), h .figures) ≡ heard earlier s o hs (reportAt bytes at (v .n)) =
-        c .in-Continue-hear .ensures tt .answer ∙ ap (heard earlier s o hs) q in
+    c .in-Continue-hear .ensures tt .answer ∙ ap (heard earlier s o hs) q in
     record {
       whole = subst (λ (k : ℕ). at + roundSize k ≤ length bytes) (c .pre .0) (c .in-Continue-check-round .ensures tt .whole);
       answer = ap forget told ∙ heard-one earlier s v bytes at hs o whole opening;

@@ -25,20 +25,21 @@ loop-at-again g c =
     let h = c .in-Ok .heard in
     let inv = c .loop-at .inv in
     let t = turn-heard earlier s v bytes at figures hs (inv .2) (c .loop-at-test .taken) (begunAs (h .vote)) (h .figures) (c .play-round .last .table)
-        (c .in-Ok .ensures tt .answer) (c .in-Ok .ensures tt .table) n (inv .0) in
+    (c .in-Ok .ensures tt .answer) (c .in-Ok .ensures tt .table) n (inv .0) in
     let items : vec-items (c .push .last .self) ≡ figures ++ (h .figures ∷ []) = c .in-Continue-push .ensures tt .items in
     let width : length (c .play-round .last .words) ≡ n = c .play-round .kept .words ∙ inv .1 in
     let one : h .vote .heard ≡ v .heard + 1 = t .more ∙ length-append figures (h .figures ∷ []) ∙ ap (λ (k : ℕ). k + 1) (sym (inv .2)) in
     let k : length bytes - v .heard ≡ suc (length bytes - h .vote .heard) = omega arith in
     let place : at + roundSize n ≡ at + (26 + 8 * length (c .play-round .last .words)) = omega arith in
-    let start = playedFrom earlier s n bytes in
-    ( t .same
-    , width
-    , t .more ∙ ap length (sym items)
-    , omega arith
-    , omega (arith, c .in-Ok .ensures tt .whole)
-    , inv .5 ∙ ap (λ (m : ℕ). start m at (going figures hs)) k ∙ t .goes (length bytes - h .vote .heard)
-      ∙ ap₂ (λ (m : ℕ) fs. start (length bytes - h .vote .heard) m (going fs (c .play-round .last .table))) place (sym items) )
+    let start = playedFrom earlier s n bytes in (
+      t .same,
+      width,
+      t .more ∙ ap length (sym items),
+      omega arith,
+      omega (arith, c .in-Ok .ensures tt .whole),
+      inv .5 ∙ ap (λ (m : ℕ). start m at (going figures hs)) k ∙ t .goes (length bytes - h .vote .heard)
+          ∙ ap₂ (λ (m : ℕ) fs. start (length bytes - h .vote .heard) m (going fs (c .play-round .last .table))) place (sym items),
+    )
 
 pub returns-in-Break-push : need.returns-in-Break-push
 returns-in-Break-push g c = made-from-err _ _ (c .from-residual .ensures .0)
@@ -51,7 +52,7 @@ returns-in-Err g c =
     let k : length bytes - v .heard ≡ suc (length bytes - suc (v .heard)) = omega arith in
     inv .5 ∙ ap (λ (m : ℕ). playedFrom (g .B·Ballot .earlier) (g .V·Method .scheme) (c .args .start .n) bytes m (c .loop-at .at) (going (vec-items (c .loop-at .rounds)) (c .loop-at .table))) k
     ∙ turn-refused (g .B·Ballot .earlier) (g .V·Method .scheme) v bytes (c .loop-at .at) (vec-items (c .loop-at .rounds)) (c .loop-at .table) (inv .2) (c .loop-at-test .taken)
-        (recordBreach (c .in-Err .fault)) (c .in-Err .ensures tt .answer) (c .args .start .n) (inv .0) (length bytes - suc (v .heard))
+    (recordBreach (c .in-Err .fault)) (c .in-Err .ensures tt .answer) (c .args .start .n) (inv .0) (length bytes - suc (v .heard))
 
 pub returns : need.returns
 returns g c =

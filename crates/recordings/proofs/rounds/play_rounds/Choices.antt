@@ -12,7 +12,7 @@ Inv-loop-at g l =
     (l .vote .n ≡ l .entry .vote .n) × (length (l .words) ≡ l .entry .vote .n) × (l .vote .heard ≡ length (vec-items (l .rounds)))
     × (l .vote .heard ≤ l .at) × (l .at ≤ length (l .bytes))
     × (playedFrom (g .B·Ballot .earlier) (g .V·Method .scheme) (l .entry .vote .n) (l .bytes) (length (l .bytes)) (l .from) (going [] (l .entry .table))
-      ≡ playedFrom (g .B·Ballot .earlier) (g .V·Method .scheme) (l .entry .vote .n) (l .bytes) (length (l .bytes) - l .vote .heard) (l .at) (going (vec-items (l .rounds)) (l .table)))
+    ≡ playedFrom (g .B·Ballot .earlier) (g .V·Method .scheme) (l .entry .vote .n) (l .bytes) (length (l .bytes) - l .vote .heard) (l .at) (going (vec-items (l .rounds)) (l .table)))
 
 abbrev pub μ-loop-at : given.MeasureT-loop-at
 μ-loop-at g l = length (l .bytes) - l .at

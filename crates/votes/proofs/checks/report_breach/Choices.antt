@@ -9,7 +9,7 @@ abbrev pub Inv-check : given.InvT-check
 Inv-check g l =
     (l .found ≡ None)
     × (first (breachAt (g .V·Method .scheme) (l .running) (l .senders) (l .round) (l .words) (l .alarms)) 64
-      ≡ left (breachAt (g .V·Method .scheme) (l .running) (l .senders) (l .round) (l .words) (l .alarms)) 64 (l .head))
+    ≡ left (breachAt (g .V·Method .scheme) (l .running) (l .senders) (l .round) (l .words) (l .alarms)) 64 (l .head))
 
 abbrev pub Inv-loop-other : given.InvT-loop-other
 Inv-loop-other g l =

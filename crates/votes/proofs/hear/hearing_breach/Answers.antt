@@ -42,7 +42,7 @@ returns-in-Some g c =
     let early = le-ltb _ _ (c .if-round-gt10000 .left) in
     let same = eq-eqb _ _ (c .if-words-n .left) in
     let found : lowestIdle (c .args .stops) (running (c .args .table .now) (c .args .n)) ≡ Some (c .in-Some .head) =
-        ap (lowestIdle (c .args .stops)) (sym (c .in-state-running .ensures)) ∙ sym (c .lowest-idle .ensures) ∙ c .in-Some .is in
+    ap (lowestIdle (c .args .stops)) (sym (c .in-state-running .ensures)) ∙ sym (c .lowest-idle .ensures) ∙ c .in-Some .is in
     record { accepted = tt; value = rw (whole, early, same, found) }
 
 pub returns : need.returns
@@ -54,7 +54,7 @@ returns g c =
     let early = le-ltb _ _ (c .if-round-gt10000 .left) in
     let same = eq-eqb _ _ (c .if-words-n .left) in
     let none : lowestIdle (c .args .stops) runners ≡ None =
-        ap (lowestIdle (c .args .stops)) (sym (c .in-state-running .ensures)) ∙ sym (c .lowest-idle .ensures) ∙ c .in-rest .is in
+    ap (lowestIdle (c .args .stops)) (sym (c .in-state-running .ensures)) ∙ sym (c .lowest-idle .ensures) ∙ c .in-rest .is in
     let told : faultBreach (c .report-breach .result) ≡ reportBreach s runners (c .args .senders) (c .args .round) (c .args .words .now) (c .args .alarms) =
-        c .report-breach .ensures ∙ ap (λ (w : ℕ). reportBreach s w (c .args .senders) (c .args .round) (c .args .words .now) (c .args .alarms)) (c .in-state-running .ensures) in
+    c .report-breach .ensures ∙ ap (λ (w : ℕ). reportBreach s w (c .args .senders) (c .args .round) (c .args .words .now) (c .args .alarms)) (c .in-state-running .ensures) in
     record { accepted = either _ (c .if-round-gt10000 .left) (c .if-table-n .left) (c .if-words-n .left); value = rw (whole, early, same, none) told }

@@ -26,7 +26,7 @@ kept : {B : Type 0} (earlier : B → B → Bool) (old ts : List (Head B)) (words
     → ballotsOf earlier ts word ≡ ballotsOf earlier old word
 kept earlier old ts words stops i word e =
     ballots-same earlier ts old word 64
-      (λ k. ap (λ xs. estimateAt xs k) e ∙ rewrite-estimate (noteAt earlier old words stops) (noteAt-estimate earlier old words stops) 0 i old k)
+    (λ k. ap (λ xs. estimateAt xs k) e ∙ rewrite-estimate (noteAt earlier old words stops) (noteAt-estimate earlier old words stops) 0 i old k)
 
 pub loop-i-holds : need.loop-i-holds
 loop-i-holds g c = (sym (no-one (g .B·Ballot .earlier) (c .args .table .now) 64), sym (rewrite-none _ _))
@@ -45,9 +45,9 @@ loop-i-again g c =
     let word = getD words i 0 in
     let f : ℕ → Head (g .B .Denot) → Head (g .B .Denot) = noteAt earlier old words (c .args .stops) in
     let heard : c .heard-again-ballots .result ≡ ballotsOf earlier old word =
-        c .heard-again-ballots .ensures ∙ kept earlier old (c .loop-i .table) words (c .args .stops) i word (c .loop-i .inv .1) in
+    c .heard-again-ballots .ensures ∙ kept earlier old (c .loop-i .table) words (c .args .stops) i word (c .loop-i .inv .1) in
     let told : c .note .result ≡ f i h =
-        c .note .ensures ∙ ap₂ (λ (t : Bool) (b : Ballots (g .B .Denot)). noted t b (h .state) h) (c .has .ensures) heard in
+    c .note .ensures ∙ ap₂ (λ (t : Bool) (b : Ballots (g .B .Denot)). noted t b (h .state) h) (c .has .ensures) heard in
     (heard, ap (set (c .loop-i .table) i) told ∙ rewrite-more f old (c .loop-i .table) i h (omega arith) (c .loop-i .inv .1) (c .index-table-i .is))
 
 pub returns : need.returns

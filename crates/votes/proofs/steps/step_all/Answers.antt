@@ -27,8 +27,8 @@ loop-i-again g c =
     let h = c .index-table-i .result in
     let q : Report = record { words = c .args .words .now; alarms = c .args .alarms; stops = c .args .stops } in
     let heard : c .recall-heard .result ≡ recalls s (c .args .senders) (c .args .round) (getD (q .words) i 0) (bit (q .alarms) i) (h .ballots) =
-        c .recall-heard .ensures ∙ ap (λ (t : Bool). recalls s (c .args .senders) (c .args .round) (getD (q .words) i 0) t (h .ballots)) (c .has .ensures) in
+    c .recall-heard .ensures ∙ ap (λ (t : Bool). recalls s (c .args .senders) (c .args .round) (getD (q .words) i 0) t (h .ballots)) (c .has .ensures) in
     let told : c .step .result ≡ takeAt s (c .args .senders) (c .args .round) q i h =
-        c .step .ensures ∙ ap₂ (λ (t : Bool) (x : Heard (g .B .Denot)). stepped s (c .args .round) t x (h .state) h) (c .has-in-loop-i .ensures) heard in
+    c .step .ensures ∙ ap₂ (λ (t : Bool) (x : Heard (g .B .Denot)). stepped s (c .args .round) t x (h .state) h) (c .has-in-loop-i .ensures) heard in
     ap (set (c .loop-i .table) i) told
     ∙ rewrite-more (takeAt s (c .args .senders) (c .args .round) q) (c .args .table .now) (c .loop-i .table) i h (omega arith) (c .loop-i .inv) (c .index-table-i .is)

@@ -17,8 +17,9 @@ loop-i-again g c =
     let p = stands (c .args .state) hs (c .args .n) in
     let is = stands-read (c .args .state) hs (c .args .n) i (c .index-table-i .result) (omega arith) (omega arith) (c .index-table-i .is) in
     elim (c .if-same .came) [
-      then-same w ↦ w .set-is ∙ word-with i p (c .loop-i .set) (omega arith) (is ∙ sym (w .if-same .ensures tt)) (c .loop-i .inv)
-    | else-same w ↦ w .set-is ∙ word-without i p (c .loop-i .set) (is ∙ sym (w .if-same .ensures tt)) (c .loop-i .inv) ]
+      | then-same w ↦ w .set-is ∙ word-with i p (c .loop-i .set) (omega arith) (is ∙ sym (w .if-same .ensures tt)) (c .loop-i .inv)
+      | else-same w ↦ w .set-is ∙ word-without i p (c .loop-i .set) (is ∙ sym (w .if-same .ensures tt)) (c .loop-i .inv)
+    ]
 
 pub returns : need.returns
 unfolding inState

@@ -27,11 +27,12 @@ loop-i-again g c =
     let p : ℕ → Bool = λ j. stands Running hs n j && speaks s (c .args .round) (bit (c .args .turns) j) (nth hs j) in
     let told : c .sends .result ≡ (same-state (h .state) Running && says s (c .args .round) (c .has .result) h) = c .sends .ensures in
     let is : p i ≡ c .sends .result =
-        ap₂ _&&_ (stands-read Running hs n i h (omega arith) (omega arith) (c .index-table-i .is)) (ap (speaks s (c .args .round) turn) (read hs n i h (omega arith) (omega arith) (c .index-table-i .is)))
-        ∙ ap (λ (t : Bool). same-state (h .state) Running && says s (c .args .round) t h) (sym (c .has .ensures)) ∙ sym told in
+    ap₂ _&&_ (stands-read Running hs n i h (omega arith) (omega arith) (c .index-table-i .is)) (ap (speaks s (c .args .round) turn) (read hs n i h (omega arith) (omega arith) (c .index-table-i .is)))
+    ∙ ap (λ (t : Bool). same-state (h .state) Running && says s (c .args .round) t h) (sym (c .has .ensures)) ∙ sym told in
     elim (c .if-sends .came) [
-      then-sends w ↦ w .set-is ∙ word-with i p (c .loop-i .set) (omega arith) (is ∙ w .if-sends .taken) (c .loop-i .inv)
-    | else-sends w ↦ w .set-is ∙ word-without i p (c .loop-i .set) (is ∙ w .if-sends .left) (c .loop-i .inv) ]
+      | then-sends w ↦ w .set-is ∙ word-with i p (c .loop-i .set) (omega arith) (is ∙ w .if-sends .taken) (c .loop-i .inv)
+      | else-sends w ↦ w .set-is ∙ word-without i p (c .loop-i .set) (is ∙ w .if-sends .left) (c .loop-i .inv)
+    ]
 
 pub returns : need.returns
 unfolding senders

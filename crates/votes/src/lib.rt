@@ -10,5 +10,7 @@ mod checks;
 mod close;
 mod enroll;
 mod hear;
+mod leaders;
+mod listening;
 mod open;
 mod steps;

@@ -2,13 +2,13 @@
 ghost use mathlib.Core.Path.{_≡_};
 ghost use Prim.Native.Nat.{_≤_};
 ghost use lib.ListN.{length};
-ghost use Rattle.heads.specs.Heard.{ballotsOf};
 ghost use Rattle.votes.specs.Rounds.{Report, stepped, after};
 ghost use Rattle.votes.specs.Passes.{noted, listened, recalls, takeAt};
 ghost use Rattle.votes.specs.Tables.{rewrite};
 use crate::checks::heard_of;
+use crate::listening::heard_again;
+use crate::listening::leaders_of;
 use ballots::Ballot;
-use heads::ballots_heard::ballots_heard;
 use heads::head::Ballots;
 use heads::head::Head;
 use heads::head::Heard;
@@ -26,44 +26,30 @@ fn note<B: Copy>(stop: bool, ballots: Ballots<B>, h: Head<B>) -> Head<B>
     }
 }
 
-// The ballots heard with a hear word, by those heard with another that is often the same.
-fn heard_again<B: Ballot>(
-    table: &[Head<B>],
-    word: u64,
-    last: u64,
-    ballots: Ballots<B>,
-) -> Ballots<B>
-    requires { ⌜ ballots ≡ ballotsOf earlier (now table) last ⌝ }
-    ensures { λ r. ⌜ r ≡ ballotsOf earlier (now (table .entry)) word ⌝ }
-{
-    if word == last {
-        ballots
-    } else {
-        ballots_heard(table, word)
-    }
-}
-
 // In a round of ballots every head notes what it heard; the estimates stay.
 fn listen<B: Ballot, V: Method<B>>(
     method: V,
+    senders: u64,
     round: u32,
     table: &mut [Head<B>],
     words: &[u64],
     stops: u64,
 )
-    requires { ⌜ length (now words) ≤ length (now table) ⌝ }
+    requires { ⌜ length (now words) ≤ length (now table) ⌝ ∗ ⌜ length (now words) ≤ 64 ⌝ }
     ensures { λ _. ⌜ now (table .exit) ≡ listened earlier (V·Method .scheme) (length (now (words .entry))) round (now (table .entry)) (now (words .entry)) stops ⌝ }
 {
     if !method.of_ballots(round) {
         return;
     }
+    let n = words.len();
+    let leaders = leaders_of(table, n, senders);
     let mut word = 0;
     let mut ballots = Ballots {
         least: None,
         differ: false,
     };
-    for i in 0..words.len() {
-        ballots = heard_again(table, words[i], word, ballots);
+    for i in 0..n {
+        ballots = heard_again(table, n, senders, leaders, words[i], word, ballots);
         word = words[i];
         let h = table[i];
         table[i] = note(sets::has(stops, i), ballots, h);
@@ -162,9 +148,9 @@ pub fn advance<B: Ballot, V: Method<B>>(
     alarms: u64,
     stops: u64,
 )
-    requires { ⌜ length (now words) ≡ n ⌝ ∗ ⌜ n ≤ length (now table) ⌝ }
+    requires { ⌜ length (now words) ≡ n ⌝ ∗ ⌜ n ≤ length (now table) ⌝ ∗ ⌜ n ≤ 64 ⌝ }
     ensures { λ _. ⌜ now (table .exit) ≡ after earlier (V·Method .scheme) n senders round (now (table .entry)) (record { words = now (words .entry); alarms = alarms; stops = stops }) ⌝ }
 {
-    listen(method, round, table, words, stops);
+    listen(method, senders, round, table, words, stops);
     step_all(method, senders, round, table, words, alarms, stops);
 }

@@ -1,13 +1,12 @@
 -- A head that hears a sender with the least ballot of all hears that ballot as its least.
 use mathlib.Core.Path.{_≡_, refl, sym, ap, ap₂, subst, _∙_}
-use mathlib.Core.List.{List}
+use mathlib.Core.List.{List, [], _∷_}
 use mathlib.Core.Bool.{Bool, true, false, not, _&&_}
 use mathlib.Core.Logic.{_⊎_, inl, inr, ⊎-elim}
-use Prim.Native.Nat.{ℕ, _+_, _<_, _≤_}
+use Prim.Native.Nat.{ℕ, zero, suc, _+_, _<_, _≤_}
 use native.Mathlib.Omega.{arith}
 use lib.Dec.{eqb}
 use lib.ListN.{length}
-use Rattle.std.proofs.shelf.Maps.{nth-getD}
 use Rattle.std.proofs.shelf.Tests.{true≢false, and-parts, not-true, eqb-true, ne-eqb, eq-eqb, cases-lt, cases-bool}
 use Rattle.std.specs.Options.{Cases}
 use Rattle.std.specs.declared.option.Option.{Option}
@@ -21,7 +20,7 @@ use Rattle.heads.specs.declared.head.Head.{Head}
 use Rattle.heads.specs.Heard.{estimateAt, ballotsOf, From, Is-least, Two-heard}
 use Rattle.heads.proofs.Walks.{Right, right}
 use Rattle.votes.specs.declared.leaders.Leaders.{Leaders}
-use Rattle.votes.specs.Leaders.{alike, holds, differs, having, lacking, Leads, Led}
+use Rattle.votes.specs.Leaders.{alike, holds, having, Leads, Led}
 
 abbrev pub as-ballots : {B : Type 0} → Option B → Bool → Ballots B
 as-ballots least differ = record { least = least; differ = differ }
@@ -51,9 +50,11 @@ some-ballot : {B : Type 0} (earlier : B → B → Bool) (b : B) (o : Option B) �
 some-ballot earlier b (Some e) h = (e, refl, h)
 some-ballot earlier b None h = absurd (true≢false (sym h))
 
-other-ballot : {B : Type 0} (earlier : B → B → Bool) (b : B) (o : Option B) → differs earlier b o ≡ true → (e : B) × (o ≡ Some e) × (alike earlier e b ≡ false)
-other-ballot earlier b (Some e) h = (e, refl, not-true _ h)
-other-ballot earlier b None h = absurd (true≢false (sym h))
+-- each head of the table has an estimate
+estimated : {B : Type 0} (hs : List (Head B)) (i : ℕ) → i < length hs → (e : B) × (estimateAt hs i ≡ Some e)
+estimated [] i h = absurd (omega arith)
+estimated (x ∷ hs) zero h = (x .estimate, refl)
+estimated (x ∷ hs) (suc i) h = estimated hs i (omega arith)
 
 module _ {B : Type 0} (earlier : B → B → Bool) (o : Total earlier) where
   alike-same : (a b : B) → alike earlier a b ≡ true → a ≡ b
@@ -64,7 +65,7 @@ module _ {B : Type 0} (earlier : B → B → Bool) (o : Total earlier) where
   same-alike : (a b : B) → a ≡ b → alike earlier a b ≡ true
   same-alike a b e = ap₂ (λ (x y : Bool). not x && not y) (o .not-itself a b e) (o .not-itself b a (sym e))
 
-  module _ (hs : List (Head B)) (n senders : ℕ) (l : Leaders B) (leads : Leads earlier hs n senders l) where
+  module _ (hs : List (Head B)) (n senders : ℕ) (long : n ≤ length hs) (l : Leaders B) (leads : Leads earlier hs n senders l) where
     leader : (i : ℕ) → bit (l .leaders) i ≡ true → (bit senders i ≡ true) × (estimateAt hs i ≡ Some (l .least))
     unfolding having
     leader i e =
@@ -74,12 +75,16 @@ module _ {B : Type 0} (earlier : B → B → Bool) (o : Total earlier) where
         (p .0, x .1 ∙ ap Some (alike-same (x .0) (l .least) (x .2)))
 
     other : (i : ℕ) → bit (l .others) i ≡ true → (e : B) × (bit senders i ≡ true) × (estimateAt hs i ≡ Some e) × (e ≡ l .least → ⊥)
-    unfolding lacking
+    unfolding having
     other i e =
-        let m = member n (λ i. bit senders i && differs earlier (l .least) (estimateAt hs i)) i (ap (λ (w : ℕ). bit w i) (sym (leads .others)) ∙ e) in
+        let m = member 64 (λ i. bit senders i && not (bit (l .leaders) i)) i (ap (λ (w : ℕ). bit w i) (sym (leads .others)) ∙ e) in
         let p = and-parts (bit senders i) _ (m .1) in
-        let x = other-ballot earlier (l .least) (estimateAt hs i) (p .1) in
-        (x .0, p .0, x .1, λ s. true≢false (sym (same-alike (x .0) (l .least) s) ∙ x .2))
+        let low = leads .enrolled i (m .0) (p .0) in
+        let x = estimated hs i (omega arith) in
+        let off : bit (l .leaders) i ≡ false = not-true _ (p .1) in
+        let held : (bit senders i && holds earlier (l .least) (estimateAt hs i)) ≡ false =
+        sym (bit-word n (λ i. bit senders i && holds earlier (l .least) (estimateAt hs i)) i low) ∙ ap (λ (w : ℕ). bit w i) (sym (leads .leaders)) ∙ off in
+        (x .0, p .0, x .1, λ s. true≢false (sym (ap₂ _&&_ (p .0) (ap (holds earlier (l .least)) (x .1) ∙ same-alike (x .0) (l .least) s)) ∙ held))
 
     module _ (word : ℕ) (led : Led word (l .leaders) (l .others)) where
       hit : From hs word 64 (led .hit .0) (l .least)
@@ -144,11 +149,12 @@ module _ {B : Type 0} (earlier : B → B → Bool) (xs ys : List (Head B)) (same
   from-back w n i b f = record { within = f .within; heard = f .heard; sent = same i ∙ f .sent }
 
   leads-same : (n senders : ℕ) (l : Leaders B) → Leads earlier xs n senders l → Leads earlier ys n senders l
-  unfolding having lacking
+  unfolding having
   leads-same n senders l k = record {
     least = ((k .least .0 .0, from-same senders 64 _ (l .least) (k .least .0 .1)), λ i d f. k .least .1 i d (from-back senders 64 i d f));
     leaders = k .leaders ∙ (λ t. wordOf n (λ i. bit senders i && holds earlier (l .least) (same i t)));
-    others = k .others ∙ (λ t. wordOf n (λ i. bit senders i && differs earlier (l .least) (same i t)));
+    others = k .others;
+    enrolled = k .enrolled;
   }
 
   pub led-same : (n senders : ℕ) (o : Option (Leaders B)) → Cases o (Unit {0}) (λ l. Leads earlier xs n senders l) → Cases o (Unit {0}) (λ l. Leads earlier ys n senders l)

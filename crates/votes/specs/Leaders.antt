@@ -19,21 +19,15 @@ abbrev pub holds : {B : Type 0} → (B → B → Bool) → B → Option B → Bo
 holds earlier b None = false
 holds earlier b (Some e) = alike earlier e b
 
-abbrev pub differs : {B : Type 0} → (B → B → Bool) → B → Option B → Bool
-differs earlier b None = false
-differs earlier b (Some e) = not (alike earlier e b)
-
--- the senders below n that have the ballot, and those that have another
+-- the senders below n that have the ballot
 unfoldable pub having : {B : Type 0} → (B → B → Bool) → List (Head B) → ℕ → ℕ → B → ℕ
 having earlier hs n senders b = wordOf n (λ i. bit senders i && holds earlier b (estimateAt hs i))
-
-unfoldable pub lacking : {B : Type 0} → (B → B → Bool) → List (Head B) → ℕ → ℕ → B → ℕ
-lacking earlier hs n senders b = wordOf n (λ i. bit senders i && differs earlier b (estimateAt hs i))
 
 pub record Leads {B : Type 0} (earlier : B → B → Bool) (hs : List (Head B)) (n senders : ℕ) (l : Leaders B) : Type 0 where
   pub least : Is-least earlier hs senders 64 (Some (l .least))
   pub leaders : l .leaders ≡ having earlier hs n senders (l .least)
-  pub others : l .others ≡ lacking earlier hs n senders (l .least)
+  pub others : l .others ≡ wordOf 64 (λ i. bit senders i && not (bit (l .leaders) i))
+  pub enrolled : (i : ℕ) → i < 64 → bit senders i ≡ true → i < n
 
 -- a hear word has leaders and others alone, and at least one leader
 pub record Led (word leaders others : ℕ) : Type 0 where

@@ -5,7 +5,7 @@ ghost use Prim.Native.Nat.{_≤_};
 ghost use lib.ListN.{length};
 ghost use Rattle.std.specs.Options.{Cases as BySome};
 ghost use Rattle.heads.specs.Heard.{ballotsOf};
-ghost use Rattle.votes.specs.Leaders.{alike, having, lacking, Leads, Led};
+ghost use Rattle.votes.specs.Leaders.{alike, having, Leads, Led};
 use crate::leaders::Leaders;
 use ballots::Ballot;
 use heads::ballots_heard::ballots_heard;
@@ -19,17 +19,11 @@ fn same_ballot<B: Ballot>(a: B, b: B) -> bool
     !a.before(&b) && !b.before(&a)
 }
 
-// Whether a sender has the ballot, and whether it has another.
+// Whether a sender has the ballot.
 fn holds<B: Ballot>(sends: bool, estimate: B, ballot: B) -> bool
     ensures { λ r. ⌜ r ≡ sends && alike earlier estimate ballot ⌝ }
 {
     sends && same_ballot(estimate, ballot)
-}
-
-fn differs<B: Ballot>(sends: bool, estimate: B, ballot: B) -> bool
-    ensures { λ r. ⌜ r ≡ sends && not (alike earlier estimate ballot) ⌝ }
-{
-    sends && !same_ballot(estimate, ballot)
 }
 
 // The senders that have the ballot.
@@ -47,30 +41,18 @@ fn with_ballot<B: Ballot>(table: &[Head<B>], n: usize, senders: u64, ballot: B) 
     set
 }
 
-// The senders that have another ballot.
-fn with_another<B: Ballot>(table: &[Head<B>], n: usize, senders: u64, ballot: B) -> u64
-    requires { ⌜ n ≤ length (now table) ⌝ ∗ ⌜ n ≤ 64 ⌝ }
-    ensures { λ r. ⌜ r ≡ lacking earlier (now (table .entry)) n senders ballot ⌝ }
-{
-    let mut set = 0;
-    for i in 0..n {
-        let h = table[i];
-        if differs(sets::has(senders, i), h.estimate, ballot) {
-            set |= 1 << i;
-        }
-    }
-    set
-}
-
-// The senders by whether they have the least ballot that was sent; none where no ballot was.
+// The senders by whether they have the least ballot that was sent; none where no ballot was, or a sender has no record.
 pub fn leaders_of<B: Ballot>(table: &[Head<B>], n: usize, senders: u64) -> Option<Leaders<B>>
     requires { ⌜ n ≤ length (now table) ⌝ ∗ ⌜ n ≤ 64 ⌝ }
     ensures { λ r. ⌜ BySome r (Unit {0}) (λ l. Leads earlier (now (table .entry)) n senders l) ⌝ }
 {
+    if sets::next(senders, n).is_some() {
+        return None;
+    }
     match ballots_heard(table, senders).least {
         Some(least) => {
             let leaders = with_ballot(table, n, senders, least);
-            let others = with_another(table, n, senders, least);
+            let others = sets::without(senders, leaders);
             Some(Leaders {
                 least,
                 leaders,

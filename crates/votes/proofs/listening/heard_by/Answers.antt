@@ -17,7 +17,7 @@ returns-then-is-led g c =
     let word = c .args .word in
     let both : ℕ → Bool = λ i. bit word i && bit (l .others) i in
     let leads : Leads earlier hs (c .args .n) (c .args .senders) l = cases-at-some (Unit {0}) (λ x. Leads earlier hs (c .args .n) (c .args .senders) x) l (c .in-Some .is) (c .pre .1 .1) in
-    led-ballots earlier (g .B·Ballot·met .total) hs (c .args .n) (c .args .senders) l leads word (c .is-led .ensures (c .if-is-led .taken))
+    led-ballots earlier (g .B·Ballot·met .total) hs (c .args .n) (c .args .senders) (c .pre .0) l leads word (c .is-led .ensures (c .if-is-led .taken))
     (not (eqb (c .shared .result) 0))
     (λ e. none-in both (sym (c .shared .ensures) ∙ eqb-true _ _ (not-false _ e)))
     (λ e. some-in both (λ z. eqb-false _ _ (not-true _ e) (c .shared .ensures ∙ z)))

@@ -13,7 +13,7 @@ use std::alloc::AllocError;
 use votes::stages::Figures;
 
 // The line of a heard round.
-pub fn push_round(out: &mut Vec<u8>, f: Figures) -> Result<(), AllocError>
+pub(crate) fn push_round(out: &mut Vec<u8>, f: Figures) -> Result<(), AllocError>
     ensures { λ r. ⌜ made r (λ _. vec-items (now (out .exit)) ≡ vec-items (now (out .entry)) ++ roundLine f) ⌝ }
 {
     out.push(b'R')?;
@@ -48,7 +48,7 @@ fn push_outcome(out: &mut Vec<u8>, outcome: Outcome) -> Result<(), AllocError>
 }
 
 // The line of a head at the end.
-pub fn push_head(out: &mut Vec<u8>, head: usize, outcome: Outcome) -> Result<(), AllocError>
+pub(crate) fn push_head(out: &mut Vec<u8>, head: usize, outcome: Outcome) -> Result<(), AllocError>
     ensures { λ r. ⌜ made r (λ _. vec-items (now (out .exit)) ≡ vec-items (now (out .entry)) ++ headLine head outcome) ⌝ }
 {
     out.push(b'H')?;
@@ -59,7 +59,7 @@ pub fn push_head(out: &mut Vec<u8>, head: usize, outcome: Outcome) -> Result<(),
 }
 
 // The line of the fault that ended the playing.
-pub fn push_fault(out: &mut Vec<u8>, f: FileFault) -> Result<(), AllocError>
+pub(crate) fn push_fault(out: &mut Vec<u8>, f: FileFault) -> Result<(), AllocError>
     ensures { λ r. ⌜ made r (λ _. vec-items (now (out .exit)) ≡ vec-items (now (out .entry)) ++ faultLine (fileBreach f)) ⌝ }
 {
     let refusal = f.fault.refusal();

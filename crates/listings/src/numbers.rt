@@ -8,7 +8,7 @@ ghost use Rattle.listings.specs.Texts.{orDash};
 use std::alloc::AllocError;
 
 // The decimal digits of n.
-pub fn push_number(out: &mut Vec<u8>, n: usize) -> Result<(), AllocError>
+pub(crate) fn push_number(out: &mut Vec<u8>, n: usize) -> Result<(), AllocError>
     ensures { λ r. ⌜ made r (λ _. vec-items (now (out .exit)) ≡ vec-items (now (out .entry)) ++ decimal n) ⌝ }
 {
     if n < 10 {
@@ -21,7 +21,7 @@ pub fn push_number(out: &mut Vec<u8>, n: usize) -> Result<(), AllocError>
 }
 
 // A blank, and the decimal digits of n.
-pub fn push_figure(out: &mut Vec<u8>, n: usize) -> Result<(), AllocError>
+pub(crate) fn push_figure(out: &mut Vec<u8>, n: usize) -> Result<(), AllocError>
     ensures { λ r. ⌜ made r (λ _. vec-items (now (out .exit)) ≡ vec-items (now (out .entry)) ++ (32 ∷ decimal n)) ⌝ }
 {
     out.push(32)?;
@@ -30,7 +30,7 @@ pub fn push_figure(out: &mut Vec<u8>, n: usize) -> Result<(), AllocError>
 }
 
 // A blank, and the decimal digits of a number or a dash where there is none.
-pub fn push_value(out: &mut Vec<u8>, value: Option<usize>) -> Result<(), AllocError>
+pub(crate) fn push_value(out: &mut Vec<u8>, value: Option<usize>) -> Result<(), AllocError>
     ensures { λ r. ⌜ made r (λ _. vec-items (now (out .exit)) ≡ vec-items (now (out .entry)) ++ (32 ∷ orDash value)) ⌝ }
 {
     match value {

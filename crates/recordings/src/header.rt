@@ -47,7 +47,7 @@ fn kind_of(byte: u8) -> BallotKind
 }
 
 // The first five bytes of a vote file.
-pub fn read_header(bytes: &[u8]) -> Result<Header, RecordFault>
+pub(crate) fn read_header(bytes: &[u8]) -> Result<Header, RecordFault>
     ensures { λ r. ⌜ HeaderOf (now (bytes .entry)) r ⌝ }
 {
     if bytes.len() < 5 {
@@ -80,7 +80,7 @@ fn enroll_all<B: Coded>(bytes: &[u8], n: usize, table: &mut [Head<B>]) -> Result
 }
 
 // The vote of the n heads whose codes follow the first five bytes.
-pub fn start<B: Coded, V: Drop>(
+pub(crate) fn start<B: Coded, V: Drop>(
     method: V,
     bytes: &[u8],
     n: usize,

@@ -80,7 +80,7 @@ fn check_round(bytes: &[u8], at: usize, n: usize) -> Result<(), RecordFault>
 }
 
 // Plays the round record at a place; its hear words are read into words.
-pub fn play_round<B: Ballot, V: Method<B> + Drop>(
+pub(crate) fn play_round<B: Ballot, V: Method<B> + Drop>(
     vote: Vote<V>,
     table: &mut [Head<B>],
     words: &mut [u64],
@@ -106,7 +106,7 @@ pub fn play_round<B: Ballot, V: Method<B> + Drop>(
 }
 
 // Plays the rounds from a place on; the figures of those heard go into rounds. The answer is the fault that ended it.
-pub fn play_rounds<B: Ballot, V: Method<B> + Drop>(
+pub(crate) fn play_rounds<B: Ballot, V: Method<B> + Drop>(
     start: Vote<V>,
     table: &mut [Head<B>],
     words: &mut [u64],

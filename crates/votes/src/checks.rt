@@ -39,7 +39,7 @@ fn has_stranger(senders: u64, word: u64) -> bool
 }
 
 // How many of the c senders a word has; often it has them all.
-pub fn heard_of(senders: u64, c: u32, word: u64) -> u32
+pub(crate) fn heard_of(senders: u64, c: u32, word: u64) -> u32
     requires { ⌜ c ≡ sent senders ⌝ }
     ensures { λ r. ⌜ r ≡ heardOf senders word ⌝ }
 {
@@ -98,7 +98,7 @@ fn word_at(words: &[u64], head: usize) -> u64
 }
 
 // The first rule that a report breaks, heads 0 to 63 in order.
-pub fn report_breach<B, V: Method<B>>(
+pub(crate) fn report_breach<B, V: Method<B>>(
     method: V,
     running: u64,
     senders: u64,

@@ -42,7 +42,7 @@ fn with_ballot<B: Ballot>(table: &[Head<B>], n: usize, senders: u64, ballot: B) 
 }
 
 // The senders by whether they have the least ballot that was sent; none where no ballot was, or a sender has no record.
-pub fn leaders_of<B: Ballot>(table: &[Head<B>], n: usize, senders: u64) -> Option<Leaders<B>>
+pub(crate) fn leaders_of<B: Ballot>(table: &[Head<B>], n: usize, senders: u64) -> Option<Leaders<B>>
     requires { ⌜ n ≤ length (now table) ⌝ ∗ ⌜ n ≤ 64 ⌝ }
     ensures { λ r. ⌜ BySome r (Unit {0}) (λ l. Leads earlier (now (table .entry)) n senders l) ⌝ }
 {
@@ -71,7 +71,7 @@ fn is_led(word: u64, leaders: u64, others: u64) -> bool
 }
 
 // The ballots heard with a hear word; a head that hears a leader hears the least ballot of all.
-pub fn heard_by<B: Ballot>(
+pub(crate) fn heard_by<B: Ballot>(
     table: &[Head<B>],
     n: usize,
     senders: u64,
@@ -93,7 +93,7 @@ pub fn heard_by<B: Ballot>(
 }
 
 // The ballots heard with a hear word, where those heard with the last one are known; often the two are the same.
-pub fn heard_again<B: Ballot>(
+pub(crate) fn heard_again<B: Ballot>(
     table: &[Head<B>],
     n: usize,
     senders: u64,

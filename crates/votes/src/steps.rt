@@ -142,7 +142,7 @@ fn step_all<B: Copy, V: Method<B>>(
 }
 
 // The records after the round.
-pub fn advance<B: Ballot, V: Method<B>>(
+pub(crate) fn advance<B: Ballot, V: Method<B>>(
     method: V,
     n: usize,
     senders: u64,

@@ -24,7 +24,7 @@ fn same(a: State, b: State) -> bool
 }
 
 // The heads of the first n that are in that state.
-pub fn in_state<B: Copy>(table: &[Head<B>], n: usize, state: State) -> u64
+pub(crate) fn in_state<B: Copy>(table: &[Head<B>], n: usize, state: State) -> u64
     requires { ⌜ n ≤ length (now table) ⌝ ∗ ⌜ n ≤ 64 ⌝ }
     ensures { λ r. ⌜ r ≡ inState state (now (table .entry)) n ⌝ }
 {
@@ -39,7 +39,7 @@ pub fn in_state<B: Copy>(table: &[Head<B>], n: usize, state: State) -> u64
 }
 
 // The lowest head of the set that does not run.
-pub fn lowest_idle(set: u64, running: u64) -> Option<usize>
+pub(crate) fn lowest_idle(set: u64, running: u64) -> Option<usize>
     ensures { λ r. ⌜ r ≡ lowestIdle set running ⌝ }
 {
     sets::next(sets::without(set, running), 0)
@@ -60,7 +60,7 @@ pub fn senders_are_counted<B>() -> u8
 }
 
 // The running heads that send.
-pub fn senders_of<B: Copy, V: Method<B>>(
+pub(crate) fn senders_of<B: Copy, V: Method<B>>(
     method: V,
     round: u32,
     table: &[Head<B>],

@@ -1,6 +1,7 @@
 // Plays a recorded vote from standard input, and prints its listing.
 use listings::text::text_of;
 use recordings::play::play;
+use std::alloc::AllocError;
 use std::error::AnyError;
 use std::io;
 use std::io::ErrorKind;
@@ -30,14 +31,30 @@ fn read_recording(rt: &LibcRuntime) -> io::Result<Vec<u8>> {
     Ok(bytes)
 }
 
-fn run(rt: &LibcRuntime) -> Result<(), AnyError> {
-    let bytes = read_recording(rt)?;
-    let listing = play(rt.alloc(), bytes.as_slice())?;
-    let text = text_of(rt.alloc(), &listing)?;
-    rt.stdout().write_all(text.as_slice())?;
-    Ok(())
+// The listing of a recording, as text.
+fn listing_of(rt: &LibcRuntime, bytes: &[u8]) -> Result<Vec<u8>, AllocError> {
+    let listing = play(rt.alloc(), bytes)?;
+    text_of(rt.alloc(), &listing)
 }
 
 fn main(rt: LibcRuntime) -> Result<(), AnyError> {
-    rt.report(run(&rt))
+    let bytes = match read_recording(&rt) {
+        Ok(bytes) => bytes,
+        Err(e) => {
+            eprintln!(rt, "nooksage: the recording cannot be read: {e}")?;
+            return Err(e.into());
+        }
+    };
+    let text = match listing_of(&rt, bytes.as_slice()) {
+        Ok(text) => text,
+        Err(e) => {
+            eprintln!(rt, "nooksage: there is no memory to play the recording")?;
+            return Err(e.into());
+        }
+    };
+    if let Err(e) = rt.stdout().write_all(text.as_slice()) {
+        eprintln!(rt, "nooksage: the listing cannot be written: {e}")?;
+        return Err(e.into());
+    }
+    Ok(())
 }

@@ -38,14 +38,10 @@ fn has_stranger(senders: u64, word: u64) -> bool
     sets::without(word, senders) != 0
 }
 
-// How many of the c senders a word has; often it has them all.
-pub(crate) fn heard_of(senders: u64, c: u32, word: u64) -> u32
-    requires { ⌜ c ≡ sent senders ⌝ }
+// How many of the senders a word has.
+pub(crate) fn heard_of(senders: u64, word: u64) -> u32
     ensures { λ r. ⌜ r ≡ heardOf senders word ⌝ }
 {
-    if word == senders {
-        return c;
-    }
     sets::size(sets::shared(word, senders))
 }
 
@@ -80,7 +76,7 @@ fn late_breach<B, V: Method<B>>(
     if own_unheard(senders, word, head) {
         return Some(VoteFault::OwnUnheard { round, head });
     }
-    let t = heard_of(senders, c, word);
+    let t = heard_of(senders, word);
     if lacks_alarm::<B, V>(method, c, t, runs, alarm) {
         return Some(VoteFault::AlarmMissing { round, head });
     }

@@ -2,7 +2,7 @@
 ghost use mathlib.Core.Path.{_≡_};
 ghost use Prim.Native.Nat.{_≤_};
 ghost use lib.ListN.{length};
-ghost use Rattle.votes.specs.Rounds.{Report, sent, stepped, after};
+ghost use Rattle.votes.specs.Rounds.{Report, stepped, after};
 ghost use Rattle.votes.specs.Passes.{noted, listened, recalls, takeAt};
 ghost use Rattle.votes.specs.Tables.{rewrite};
 use crate::checks::heard_of;
@@ -60,16 +60,14 @@ fn listen<B: Ballot, V: Method<B>>(
 fn recall<B: Copy, V: Method<B>>(
     method: V,
     senders: u64,
-    c: u32,
     round: u32,
     word: u64,
     alarm: bool,
     ballots: Ballots<B>,
 ) -> Heard<B>
-    requires { ⌜ c ≡ sent senders ⌝ }
     ensures { λ r. ⌜ r ≡ recalls (V·Method .scheme) senders round word alarm ballots ⌝ }
 {
-    let count = heard_of(senders, c, word);
+    let count = heard_of(senders, word);
     if method.of_ballots(round) {
         Heard {
             count,
@@ -125,13 +123,11 @@ fn step_all<B: Copy, V: Method<B>>(
     requires { ⌜ length (now words) ≤ length (now table) ⌝ }
     ensures { λ _. ⌜ now (table .exit) ≡ rewrite (takeAt (V·Method .scheme) senders round (record { words = now (words .entry); alarms = alarms; stops = stops })) (length (now (words .entry))) (now (table .entry)) ⌝ }
 {
-    let c = sets::size(senders);
     for i in 0..words.len() {
         let h = table[i];
         let heard = recall(
             method,
             senders,
-            c,
             round,
             words[i],
             sets::has(alarms, i),

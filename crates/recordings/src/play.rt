@@ -155,7 +155,7 @@ fn play_kind<B: Coded>(
     }
 }
 
-// Plays the bytes of a vote file; it fails only for want of memory.
+// Plays the bytes of a vote file; the error is for want of memory.
 pub fn play(heap: Global, bytes: &[u8]) -> Result<Listing, AllocError>
     ensures { λ r. ⌜ made r (λ l. listingAs l ≡ played (now (bytes .entry))) ⌝ }
 {

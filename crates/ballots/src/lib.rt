@@ -1,3 +1,4 @@
+#![tactic(auto)]
 // Ballots, their order and their codes.
 ghost use Rattle.std.specs.Prelude.{◌≡◌, ℕ, ◌≤◌, Bool, true, false};
 ghost use Rattle.ballots.specs.Order.{Total, Coding};

@@ -1,3 +1,4 @@
+#![tactic(auto)]
 // Worked cases, settled by the very definitions that the calls' contracts cite.
 ghost use Rattle.cases.specs.Starred.{Starred};
 ghost use Rattle.cases.specs.Exhibits.{Exhibits};

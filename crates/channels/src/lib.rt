@@ -1,3 +1,4 @@
+#![tactic(auto)]
 // Channels: which of the senders a head hears.
 pub mod capture;
 pub mod clear;

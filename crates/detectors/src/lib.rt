@@ -1,3 +1,4 @@
+#![tactic(auto)]
 // Collision detectors: when a head is alarmed.
 pub mod counting;
 pub mod interference;

@@ -1,3 +1,4 @@
+#![tactic(auto)]
 // Drives many votes over channels, collision detectors and contention managers, chosen by a table on standard input,
 // and prints the listing of each after its number. What it prints is held to what the second model says of the table.
 mod course;

@@ -1,3 +1,4 @@
+#![tactic(auto)]
 // Worked examples of votes, as tests: each is proved, and then run.
 
 #[cfg(test)]

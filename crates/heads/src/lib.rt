@@ -1,3 +1,4 @@
+#![tactic(auto)]
 // One head: its record, what it says in a round, and what it keeps of what it hears.
 pub mod alarms;
 pub mod ballots_heard;

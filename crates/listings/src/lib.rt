@@ -1,3 +1,4 @@
+#![tactic(auto)]
 // The listing of a played vote, as text.
 mod lines;
 mod numbers;

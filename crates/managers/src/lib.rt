@@ -1,3 +1,4 @@
+#![tactic(auto)]
 // Contention managers: which heads have a turn.
 pub mod lowest;
 pub mod rotation;

@@ -1,3 +1,4 @@
+#![tactic(auto)]
 // Plays a recorded vote from standard input, and prints its listing.
 use listings::text::text_of;
 use recordings::play::play;

@@ -1,3 +1,4 @@
+#![tactic(auto)]
 // The three parts that a vote is driven by, as interfaces: any equipment that keeps the sentences of its meaning can be
 // plugged in.
 pub mod channel;

@@ -1,3 +1,4 @@
+#![tactic(auto)]
 // Recorded votes: a vote file is read and played.
 mod bytes;
 pub mod faults;

@@ -1,3 +1,4 @@
+#![tactic(auto)]
 // Plays many recordings from standard input, each after its length in four bytes, low byte first, and prints the
 // listing of each after its number. What it prints is held to what the second model says of the same recordings.
 use listings::text::text_of;

@@ -1,1 +1,2 @@
+#![tactic(auto)]
 // What holds of every chain of calls on a vote.

@@ -1,3 +1,4 @@
+#![tactic(auto)]
 // Sets of heads: head i is in a set where bit i of its 64-bit word is 1.
 ghost use Rattle.std.specs.Prelude.{◌≡◌, ℕ, ◌-◌, ◌<◌, ◌≤◌, Bool, true, false, not, ◌&&◌, ◌||◌, ◌==◌, nat_eq};
 ghost use Rattle.sets.specs.Sets.{bit, count, word_of, lowest_from};

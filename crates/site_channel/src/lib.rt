@@ -1,3 +1,4 @@
+#![tactic(auto)]
 // A channel of a site's own, beside those of the crate channels: its radios cannot hear while they send.
 ghost use Rattle.site_channel.specs.HalfDuplex.{half_duplex};
 ghost use Rattle.site_channel.specs.Keeping.{half_duplex_keeps};

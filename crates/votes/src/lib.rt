@@ -1,3 +1,4 @@
+#![tactic(auto)]
 // A vote from the roll to its close.
 pub mod faults;
 pub mod refusals;

@@ -72,7 +72,7 @@ def declared():
             if m and m.group(2) not in KEYWORDS:
                 top.add(m.group(2))
                 continue
-            m = re.match(r"\s+(?:pub )?([^\s(){}\[\];,.:]+) :(?:\s|$)", code)
+            m = re.match(r"\s+(?:(?:abbrev|unfoldable|pub) )*([^\s(){}\[\];,.:]+) :(?:\s|$)", code)
             if m:
                 (top if re.match(r"  \S", code) else local).add(m.group(1))
             local.update(re.findall(r"\blet ([^\s(){}\[\];,.:]+)", code))

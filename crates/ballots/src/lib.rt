@@ -49,7 +49,7 @@ pub trait Coded: Ballot {
 
 // The ballot that has the code, or a refusal where none has it.
 pub fn decode<B: Coded>(code: u16) -> Result<B, BallotFault>
-    ensures { result ≡ from_code encoded decoded code }
+    ensures { result ≡ from_code B.encoded B.decoded code }
 {
     let ballot = B::from_code(code);
     if ballot.code() == code {

@@ -9,49 +9,49 @@ use Rattle.votes.specs.declared.stages.Figures.{Figures}
 use Rattle.votes.specs.Rounds.{after}
 use Rattle.votes.specs.Calls.{unless, changed, begun_as, figures_of, short_table, rounds_spent}
 use Rattle.runs.specs.Calm.{Calm}
-use Rattle.runs.specs.Driving.{Parts, Driving, turns, runners, sending, alarms, report, driveBreach, drive_answer, driven, drivenTable}
+use Rattle.runs.specs.Driving.{Parts, Driving, turns, runners, sending, alarms, report, drive_breach, drive_answer, driven, driven_table}
 use Rattle.runs.specs.Chains.{Stage, voting, whole, standing, Counts, Calls, drives}
 use Rattle.runs.proofs.Tests.{fails, cond-false}
 use Rattle.runs.proofs.Views.{none_both, when_none, after_length}
 use Rattle.runs.proofs.Drivings.{DrivenOn, driven_on}
 use Rattle.runs.proofs.Fitted.{sending_below}
-use Rattle.cases.specs.Plays.{unless_broken, drivingAt, drivenOne, drives as drivesFor}
+use Rattle.cases.specs.Plays.{unless_broken, driving_at, driven_one, drives as drivesFor}
 use Rattle.cases.proofs.Calmly.{calm_test, calm_by}
 
 module _ {B : Type 0} (earlier : B → B → Bool) (s : Scheme B) (parts : Parts) (stops : ℕ → ℕ) (n : ℕ) (few : n ≤ 64) where
-  abbrev isCalm : Driving B → Bool
-  isCalm d = calm_test (calmness s) (turns d) (runners d) (sending d) (report d)
+  abbrev is_calm : Driving B → Bool
+  is_calm d = calm_test (calmness s) (turns d) (runners d) (sending d) (report d)
 
   -- how many calm rounds in a row there are after m drivings more
   unfoldable pub tally : ℕ → ℕ → Result (List (Head B)) Breach → ℕ → ℕ
   tally zero r hs k = k
   tally (suc m) r (Err b) k = k
   tally (suc m) r (Ok hs) k =
-      tally m (r + 1) (drivenOne earlier s n (drivingAt earlier s n parts stops r hs)) (cond (isCalm (drivingAt earlier s n parts stops r hs)) (k + 1) 0)
+      tally m (r + 1) (driven_one earlier s n (driving_at earlier s n parts stops r hs)) (cond (is_calm (driving_at earlier s n parts stops r hs)) (k + 1) 0)
 
-  abbrev pub voteAt : (r : ℕ) → r ≤ 10000 → Vote (Unit {0})
-  voteAt r l = record { n = n; heard = r; method = tt; few = few; rounds = l }
+  abbrev pub vote_at : (r : ℕ) → r ≤ 10000 → Vote (Unit {0})
+  vote_at r l = record { n = n; heard = r; method = tt; few = few; rounds = l }
 
   module _ (from : Stage (Unit {0})) (start : List (Head B)) (k₀ : ℕ) where
     abbrev Reached : ℕ → List (Head B) → ℕ → Type 0
-    Reached r hs k = (l : r ≤ 10000) × Calls earlier s from start k₀ (voting (voteAt r l)) hs k
+    Reached r hs k = (l : r ≤ 10000) × Calls earlier s from start k₀ (voting (vote_at r l)) hs k
 
-    one_more : {r : ℕ} {hs : List (Head B)} {k : ℕ} → Reached r hs k → driveBreach (drivingAt earlier s n parts stops r hs) (replicate n 0) ≡ None
-        → Reached (r + 1) (after earlier s n (sending (drivingAt earlier s n parts stops r hs)) (r + 1) hs (report (drivingAt earlier s n parts stops r hs))) (cond (isCalm (drivingAt earlier s n parts stops r hs)) (k + 1) 0)
+    one_more : {r : ℕ} {hs : List (Head B)} {k : ℕ} → Reached r hs k → drive_breach (driving_at earlier s n parts stops r hs) (replicate n 0) ≡ None
+        → Reached (r + 1) (after earlier s n (sending (driving_at earlier s n parts stops r hs)) (r + 1) hs (report (driving_at earlier s n parts stops r hs))) (cond (is_calm (driving_at earlier s n parts stops r hs)) (k + 1) 0)
     one_more {r} {hs} {k} (l, c) e = (
       within_time,
-      subst (λ (x : List (Head B)). Calls earlier s from start k₀ (voting (voteAt (r + 1) within_time)) x k') table_is
-          (drives c hs (whole on.long (λ i m. refl)) (stops (r + 1)) (replicate n 0) parts (Ok (record { vote = voteAt (r + 1) within_time; figures = figures })) answer_is k' counted),
+      subst (λ (x : List (Head B)). Calls earlier s from start k₀ (voting (vote_at (r + 1) within_time)) x k') table_is
+          (drives c hs (whole on.long (λ i m. refl)) (stops (r + 1)) (replicate n 0) parts (Ok (record { vote = vote_at (r + 1) within_time; figures = figures })) answer_is k' counted),
     )
       where
         d : Driving B
-        d = drivingAt earlier s n parts stops r hs
+        d = driving_at earlier s n parts stops r hs
 
         on : DrivenOn d
         on = driven_on d (replicate n 0) e
 
         k' : ℕ
-        k' = cond (isCalm d) (k + 1) 0
+        k' = cond (is_calm d) (k + 1) 0
 
         within_time : r + 1 ≤ 10000
         within_time =
@@ -64,18 +64,18 @@ module _ {B : Type 0} (earlier : B → B → Bool) (s : Scheme B) (parts : Parts
         figures : Figures
         figures = figures_of n (r + 1) (sending d) (alarms d) moved
 
-        answer_is : drive_answer (Ok (record { vote = voteAt (r + 1) within_time; figures = figures })) ≡ driven earlier (voteAt r l) d (replicate n 0)
-        answer_is = sym (ap (λ o. unless o (record { n = n; heard = r + 1; method = tt }, figures) (begun_as (voteAt r l))) e)
+        answer_is : drive_answer (Ok (record { vote = vote_at (r + 1) within_time; figures = figures })) ≡ driven earlier (vote_at r l) d (replicate n 0)
+        answer_is = sym (ap (λ o. unless o (record { n = n; heard = r + 1; method = tt }, figures) (begun_as (vote_at r l))) e)
 
-        table_is : standing n hs (drivenTable d earlier (replicate n 0)) ≡ moved
+        table_is : standing n hs (driven_table d earlier (replicate n 0)) ≡ moved
         table_is =
             ap (λ o. standing n hs (changed o moved hs)) e
             ∙ cond-false (ltb (length moved) n) hs moved (fails (le-ltb (length moved) n (let same = after_length earlier s n (sending d) (r + 1) hs (report d) in let m = on.long in omega arith)))
 
-        counted : Counts (driveBreach d (replicate n 0)) (Calm s (turns d) (runners d) (sending d) (report d)) k k'
-        counted = subst (λ o. Counts o (Calm s (turns d) (runners d) (sending d) (report d)) k k') (sym e) (by (isCalm d) refl)
+        counted : Counts (drive_breach d (replicate n 0)) (Calm s (turns d) (runners d) (sending d) (report d)) k k'
+        counted = subst (λ o. Counts o (Calm s (turns d) (runners d) (sending d) (report d)) k k') (sym e) (by (is_calm d) refl)
           where
-            by : (b : Bool) → isCalm d ≡ b → (cond b (k + 1) 0 ≡ 0) ⊎ (Calm s (turns d) (runners d) (sending d) (report d) × (cond b (k + 1) 0 ≡ k + 1))
+            by : (b : Bool) → is_calm d ≡ b → (cond b (k + 1) 0 ≡ 0) ⊎ (Calm s (turns d) (runners d) (sending d) (report d) × (cond b (k + 1) 0 ≡ k + 1))
             by true f = inr (calm_by (calmness s) (turns d) (runners d) (sending d) (report d) (sending_below s (r + 1) hs n (turns d) few) f, refl)
             by false f = inl refl
 
@@ -96,17 +96,17 @@ module _ {B : Type 0} (earlier : B → B → Bool) (s : Scheme B) (parts : Parts
     unfolding drivesFor tally
     chained zero r hs hs' k c e = (r, subst (λ (x : List (Head B)). Reached r x k) (ok_same hs hs' e) c)
     chained (suc m) r hs hs' k c e =
-        go (driveBreach (drivingAt earlier s n parts stops r hs) (replicate n 0)) refl e (λ f. one_more c f) (λ c' e'. chained m (r + 1) _ hs' _ c' e')
+        go (drive_breach (driving_at earlier s n parts stops r hs) (replicate n 0)) refl e (λ f. one_more c f) (λ c' e'. chained m (r + 1) _ hs' _ c' e')
       where
         moved : List (Head B)
-        moved = after earlier s n (sending (drivingAt earlier s n parts stops r hs)) (r + 1) hs (report (drivingAt earlier s n parts stops r hs))
+        moved = after earlier s n (sending (driving_at earlier s n parts stops r hs)) (r + 1) hs (report (driving_at earlier s n parts stops r hs))
 
         k' : ℕ
-        k' = cond (isCalm (drivingAt earlier s n parts stops r hs)) (k + 1) 0
+        k' = cond (is_calm (driving_at earlier s n parts stops r hs)) (k + 1) 0
 
-        go : (o : Option Breach) → driveBreach (drivingAt earlier s n parts stops r hs) (replicate n 0) ≡ o
+        go : (o : Option Breach) → drive_breach (driving_at earlier s n parts stops r hs) (replicate n 0) ≡ o
             → drivesFor earlier s n parts stops m (r + 1) (unless_broken o moved) ≡ Ok hs'
-            → (driveBreach (drivingAt earlier s n parts stops r hs) (replicate n 0) ≡ None → Reached (r + 1) moved k')
+            → (drive_breach (driving_at earlier s n parts stops r hs) (replicate n 0) ≡ None → Reached (r + 1) moved k')
             → (Reached (r + 1) moved k' → drivesFor earlier s n parts stops m (r + 1) (Ok moved) ≡ Ok hs' → (r' : ℕ) × Reached r' hs' (tally m (r + 1) (Ok moved) k'))
             → (r' : ℕ) × Reached r' hs' (tally m (r + 1) (unless_broken o moved) k')
         go (Some b) f e next ih = absurd (err-stays m (r + 1) b hs' e)

@@ -19,7 +19,7 @@ use Rattle.votes.specs.declared.stages.Standing.{Standing}
 use Rattle.votes.specs.Tables.{in_state, lowest_idle, rewrite_from}
 use Rattle.votes.specs.Rounds.{senders, report_breach, after}
 use Rattle.votes.specs.Calls.{fresh, hear_breach, standing_as}
-use Rattle.runs.specs.Driving.{Parts, words, alarms, earlyBreach}
+use Rattle.runs.specs.Driving.{Parts, words, alarms, early_breach}
 use Rattle.runs.specs.Chains.{voting, Calls, none, Begins}
 use Rattle.cases.specs.Plays.{drives, standings, begun}
 use Rattle.cases.specs.Starred.{short_vote, bit_vote, split_vote, clearly, no_stops, stop_in_seventeen}
@@ -27,7 +27,7 @@ use Rattle.cases.specs.Exhibits.{Exhibit, Exhibits, pair}
 use Rattle.votes.specs.declared.stages.Standing.TheVariants.{Running, Decided}
 use Rattle.cases.proofs.Settled.{settled}
 use Rattle.cases.proofs.Calmly.{all}
-use Rattle.cases.proofs.Driven.{voteAt, tally, chained}
+use Rattle.cases.proofs.Driven.{vote_at, tally, chained}
 use Rattle.ballots.specs.contracts.recipe.RecipeBallot.TheImpl.{ghosts as recipeOrder}
 use Rattle.ballots.specs.contracts.recipe.RecipeCoded.TheImpl.{ghosts as recipeCode}
 
@@ -44,7 +44,7 @@ two = omega arith
 none_yet : 0 ≤ 10000
 none_yet = omega arith
 
-begun_pair : Begins (voteAt recipeOrder.earlier short_vote clearly no_stops 2 two 0 none_yet) (map fresh pair)
+begun_pair : Begins (vote_at recipeOrder.earlier short_vote clearly no_stops 2 two 0 none_yet) (map fresh pair)
 begun_pair = record {
   some = omega arith;
   no_round = refl;
@@ -75,57 +75,57 @@ exhibit : (s : Scheme Recipe) (parts : Parts) (stops : ℕ → ℕ) (m k : ℕ) 
     → Exhibit s pair k ends
 exhibit s parts stops m k ends e f =
     let t = there (drives recipeOrder.earlier s 2 parts stops m 0 (begun pair)) ends e in
-    let c = chained recipeOrder.earlier s parts stops 2 two (voting (voteAt recipeOrder.earlier s parts stops 2 two 0 none_yet)) (map fresh pair) 0
+    let c = chained recipeOrder.earlier s parts stops 2 two (voting (vote_at recipeOrder.earlier s parts stops 2 two 0 none_yet)) (map fresh pair) 0
     m 0 (map fresh pair) t.0 0 (none_yet, none) t.1 in
     record {
-      vote = voteAt recipeOrder.earlier s parts stops 2 two 0 none_yet;
+      vote = vote_at recipeOrder.earlier s parts stops 2 two 0 none_yet;
       begins = begun_pair;
-      stage = voting (voteAt recipeOrder.earlier s parts stops 2 two c.0 c.1.0);
+      stage = voting (vote_at recipeOrder.earlier s parts stops 2 two c.0 c.1.0);
       heads = t.0;
-      chain = subst (λ (x : ℕ). Calls recipeOrder.earlier s (voting (voteAt recipeOrder.earlier s parts stops 2 two 0 none_yet)) (map fresh pair) 0 (voting (voteAt recipeOrder.earlier s parts stops 2 two c.0 c.1.0)) t.0 x) f c.1.1;
+      chain = subst (λ (x : ℕ). Calls recipeOrder.earlier s (voting (vote_at recipeOrder.earlier s parts stops 2 two 0 none_yet)) (map fresh pair) 0 (voting (vote_at recipeOrder.earlier s parts stops 2 two c.0 c.1.0)) t.0 x) f c.1.1;
       stand = t.2;
     }
 
 -- ---- computed
 
 short_3 : standings recipeCode.encoded (drives recipeOrder.earlier short_vote 2 disturbedly no_stops 3 0 (begun pair)) ≡ Ok (Running ∷ Running ∷ [])
-unfolding drives tally all spans_below words alarms earlyBreach hear_breach senders report_breach after in_state lowest_idle rewrite_from ballots_below bit count word_of first_from
+unfolding drives tally all spans_below words alarms early_breach hear_breach senders report_breach after in_state lowest_idle rewrite_from ballots_below bit count word_of first_from
 short_3 = refl
 
 short_4 : standings recipeCode.encoded (drives recipeOrder.earlier short_vote 2 disturbedly no_stops 4 0 (begun pair)) ≡ Ok (Decided 5 ∷ Decided 5 ∷ [])
-unfolding drives tally all spans_below words alarms earlyBreach hear_breach senders report_breach after in_state lowest_idle rewrite_from ballots_below bit count word_of first_from
+unfolding drives tally all spans_below words alarms early_breach hear_breach senders report_breach after in_state lowest_idle rewrite_from ballots_below bit count word_of first_from
 short_4 = refl
 
 short_calm_3 : tally recipeOrder.earlier short_vote disturbedly no_stops 2 two 3 0 (begun pair) 0 ≡ 2
-unfolding drives tally all spans_below words alarms earlyBreach hear_breach senders report_breach after in_state lowest_idle rewrite_from ballots_below bit count word_of first_from
+unfolding drives tally all spans_below words alarms early_breach hear_breach senders report_breach after in_state lowest_idle rewrite_from ballots_below bit count word_of first_from
 short_calm_3 = refl
 
 short_calm_4 : tally recipeOrder.earlier short_vote disturbedly no_stops 2 two 4 0 (begun pair) 0 ≡ 3
-unfolding drives tally all spans_below words alarms earlyBreach hear_breach senders report_breach after in_state lowest_idle rewrite_from ballots_below bit count word_of first_from
+unfolding drives tally all spans_below words alarms early_breach hear_breach senders report_breach after in_state lowest_idle rewrite_from ballots_below bit count word_of first_from
 short_calm_4 = refl
 
 bit_27 : standings recipeCode.encoded (drives recipeOrder.earlier bit_vote 2 disturbedly no_stops 27 0 (begun pair)) ≡ Ok (Running ∷ Running ∷ [])
-unfolding drives tally all spans_below words alarms earlyBreach hear_breach senders report_breach after in_state lowest_idle rewrite_from ballots_below bit count word_of first_from
+unfolding drives tally all spans_below words alarms early_breach hear_breach senders report_breach after in_state lowest_idle rewrite_from ballots_below bit count word_of first_from
 bit_27 = refl
 
 bit_28 : standings recipeCode.encoded (drives recipeOrder.earlier bit_vote 2 disturbedly no_stops 28 0 (begun pair)) ≡ Ok (Decided 5 ∷ Decided 5 ∷ [])
-unfolding drives tally all spans_below words alarms earlyBreach hear_breach senders report_breach after in_state lowest_idle rewrite_from ballots_below bit count word_of first_from
+unfolding drives tally all spans_below words alarms early_breach hear_breach senders report_breach after in_state lowest_idle rewrite_from ballots_below bit count word_of first_from
 bit_28 = refl
 
 bit_calm_27 : tally recipeOrder.earlier bit_vote disturbedly no_stops 2 two 27 0 (begun pair) 0 ≡ 26
-unfolding drives tally all spans_below words alarms earlyBreach hear_breach senders report_breach after in_state lowest_idle rewrite_from ballots_below bit count word_of first_from
+unfolding drives tally all spans_below words alarms early_breach hear_breach senders report_breach after in_state lowest_idle rewrite_from ballots_below bit count word_of first_from
 bit_calm_27 = refl
 
 bit_calm_28 : tally recipeOrder.earlier bit_vote disturbedly no_stops 2 two 28 0 (begun pair) 0 ≡ 27
-unfolding drives tally all spans_below words alarms earlyBreach hear_breach senders report_breach after in_state lowest_idle rewrite_from ballots_below bit count word_of first_from
+unfolding drives tally all spans_below words alarms early_breach hear_breach senders report_breach after in_state lowest_idle rewrite_from ballots_below bit count word_of first_from
 bit_calm_28 = refl
 
 split_calm_43 : tally recipeOrder.earlier split_vote clearly stop_in_seventeen 2 two 43 0 (begun pair) 0 ≡ 26
-unfolding drives tally all spans_below words alarms earlyBreach hear_breach senders report_breach after in_state lowest_idle rewrite_from ballots_below bit count word_of first_from
+unfolding drives tally all spans_below words alarms early_breach hear_breach senders report_breach after in_state lowest_idle rewrite_from ballots_below bit count word_of first_from
 split_calm_43 = refl
 
 split_calm_44 : tally recipeOrder.earlier split_vote clearly stop_in_seventeen 2 two 44 0 (begun pair) 0 ≡ 27
-unfolding drives tally all spans_below words alarms earlyBreach hear_breach senders report_breach after in_state lowest_idle rewrite_from ballots_below bit count word_of first_from
+unfolding drives tally all spans_below words alarms early_breach hear_breach senders report_breach after in_state lowest_idle rewrite_from ballots_below bit count word_of first_from
 split_calm_44 = refl
 
 pub shown : Exhibits

@@ -7,12 +7,12 @@ use Rattle.heads.specs.Heard.{ballots_below}
 use Rattle.votes.specs.Tables.{in_state, lowest_idle, rewrite_from}
 use Rattle.votes.specs.Rounds.{senders, report_breach, after}
 use Rattle.votes.specs.Calls.{hear_breach}
-use Rattle.runs.specs.Driving.{words, alarms, earlyBreach}
+use Rattle.runs.specs.Driving.{words, alarms, early_breach}
 use Rattle.cases.specs.Plays.{plays, drives}
 use Rattle.cases.specs.Starred.{Starred}
 
 pub settled : Starred
-unfolding plays drives words alarms earlyBreach hear_breach senders report_breach after in_state lowest_idle rewrite_from ballots_below bit count word_of first_from
+unfolding plays drives words alarms early_breach hear_breach senders report_breach after in_state lowest_idle rewrite_from ballots_below bit count word_of first_from
 settled = record {
   listing = refl;
   half_heard = refl;

@@ -7,7 +7,7 @@ use Rattle.heads.specs.Rules.{Scheme}
 use Rattle.votes.specs.declared.stages.Standing.{Standing}
 use Rattle.votes.specs.Rounds.{Report, senders, after}
 use Rattle.votes.specs.Calls.{fresh, open_breach, hear_breach, standing_as}
-use Rattle.runs.specs.Driving.{Parts, Driving, sending, report, driveBreach}
+use Rattle.runs.specs.Driving.{Parts, Driving, sending, report, drive_breach}
 
 -- the turns of a round, and its report
 pub record Round : Type 0 where
@@ -19,12 +19,12 @@ unless_broken (Some b) a = Err b
 unless_broken None a = Ok a
 
 module _ {B : Type 0} (earlier : B → B → Bool) (s : Scheme B) (n : ℕ) where
-  abbrev pub brokenBy : ℕ → List (Head B) → Round → Option Breach
-  brokenBy r hs x = or_else (open_breach n (r + 1) hs x.turns) (hear_breach s n (r + 1) (senders s (r + 1) hs n x.turns) hs x.report)
+  abbrev pub broken_by : ℕ → List (Head B) → Round → Option Breach
+  broken_by r hs x = or_else (open_breach n (r + 1) hs x.turns) (hear_breach s n (r + 1) (senders s (r + 1) hs n x.turns) hs x.report)
 
   -- the heads' records after a round, or the rule broken
   abbrev pub one : ℕ → List (Head B) → Round → Result (List (Head B)) Breach
-  one r hs x = unless_broken (brokenBy r hs x) (after earlier s n (senders s (r + 1) hs n x.turns) (r + 1) hs x.report)
+  one r hs x = unless_broken (broken_by r hs x) (after earlier s n (senders s (r + 1) hs n x.turns) (r + 1) hs x.report)
 
   -- after r rounds and those that follow
   unfoldable pub plays : ℕ → Result (List (Head B)) Breach → List Round → Result (List (Head B)) Breach
@@ -33,17 +33,17 @@ module _ {B : Type 0} (earlier : B → B → Bool) (s : Scheme B) (n : ℕ) wher
   plays r (Ok hs) (x ∷ xs) = plays (r + 1) (one r hs x) xs
 
   -- driven by the parts, with stops by the round; the list has a word for each head
-  abbrev pub drivingAt : Parts → (ℕ → ℕ) → ℕ → List (Head B) → Driving B
-  drivingAt parts stops r hs = record { scheme = s; n = n; heard = r; table = hs; stops = stops (r + 1); parts = parts }
+  abbrev pub driving_at : Parts → (ℕ → ℕ) → ℕ → List (Head B) → Driving B
+  driving_at parts stops r hs = record { scheme = s; n = n; heard = r; table = hs; stops = stops (r + 1); parts = parts }
 
-  abbrev pub drivenOne : Driving B → Result (List (Head B)) Breach
-  drivenOne d = unless_broken (driveBreach d (replicate n 0)) (after earlier s n (sending d) (d.heard + 1) d.table (report d))
+  abbrev pub driven_one : Driving B → Result (List (Head B)) Breach
+  driven_one d = unless_broken (drive_breach d (replicate n 0)) (after earlier s n (sending d) (d.heard + 1) d.table (report d))
 
   -- k drivings more, after r rounds
   unfoldable pub drives : Parts → (ℕ → ℕ) → ℕ → ℕ → Result (List (Head B)) Breach → Result (List (Head B)) Breach
   drives parts stops zero r hs = hs
   drives parts stops (suc k) r (Err b) = Err b
-  drives parts stops (suc k) r (Ok hs) = drives parts stops k (r + 1) (drivenOne (drivingAt parts stops r hs))
+  drives parts stops (suc k) r (Ok hs) = drives parts stops k (r + 1) (driven_one (driving_at parts stops r hs))
 
 -- ---- how heads stand
 

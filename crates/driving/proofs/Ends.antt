@@ -22,7 +22,7 @@ use Rattle.votes.specs.Faults.{vote_breach}
 use Rattle.votes.specs.Tables.{running, lowest_idle}
 use Rattle.votes.specs.Rounds.{Report, senders, sent, report_breach, after}
 use Rattle.votes.specs.Calls.{done, refused, unless, changed, Begun, Opened, begun_as, opened_as, at_lowest, short_table, word_count, rounds_spent, open_breach, open_answer, opened, withdrawn, hear_breach, figures_of, hear_answer, heard, heard_table, running_in}
-use Rattle.runs.specs.Driving.{Driving, driving, round, runners, turns, sending, alarm, words, alarms, report, earlyBreach, driveBreach, drivenTable, drivenList}
+use Rattle.runs.specs.Driving.{Driving, driving, round, runners, turns, sending, alarm, words, alarms, report, early_breach, drive_breach, driven_table, driven_list}
 use Rattle.runs.proofs.Answered.{accepted_by, refused_by}
 use Rattle.runs.proofs.Views.{none_both, when_none}
 use Rattle.runs.proofs.Drivings.{length_words, word_at}
@@ -55,27 +55,27 @@ too_short n fault hs e = go (ltb (length hs) n) refl e
 -- ---- the checks of a driving, one by one
 
 module _ {B : Type 0} (d : Driving B) (list : List ℕ) where
-  early_four : ltb (length d.table) d.n ≡ true → earlyBreach d list ≡ Some (numbered 4)
-  unfolding earlyBreach
+  early_four : ltb (length d.table) d.n ≡ true → early_breach d list ≡ Some (numbered 4)
+  unfolding early_breach
   early_four e = or_else_this _ _ (numbered 4) (when_true _ _ e)
 
   module _ (long : short_table d.n d.table ≡ None) where
-    early_eight : eqb (length list) d.n ≡ false → earlyBreach d list ≡ Some (in_round 8 (round d))
-    unfolding earlyBreach
+    early_eight : eqb (length list) d.n ≡ false → early_breach d list ≡ Some (in_round 8 (round d))
+    unfolding early_breach
     early_eight e = or_else_next _ _ long ∙ or_else_this _ _ (in_round 8 (round d)) (when_true _ _ (ap not e))
 
     module _ (counted : word_count d.n (round d) list ≡ None) where
-      early_open : (b : Breach) → open_breach d.n (round d) d.table (turns d) ≡ Some b → earlyBreach d list ≡ Some b
-      unfolding earlyBreach
+      early_open : (b : Breach) → open_breach d.n (round d) d.table (turns d) ≡ Some b → early_breach d list ≡ Some b
+      unfolding early_breach
       early_open b e = or_else_next _ _ long ∙ or_else_next _ _ counted ∙ or_else_this _ _ b e
 
       module _ (opened : open_breach d.n (round d) d.table (turns d) ≡ None) where
-        early_nine : (head : ℕ) → lowest_idle d.stops (runners d) ≡ Some head → earlyBreach d list ≡ Some (at_head 9 (round d) head)
-        unfolding earlyBreach
+        early_nine : (head : ℕ) → lowest_idle d.stops (runners d) ≡ Some head → early_breach d list ≡ Some (at_head 9 (round d) head)
+        unfolding early_breach
         early_nine head e = or_else_next _ _ long ∙ or_else_next _ _ counted ∙ or_else_next _ _ opened ∙ ap (at_lowest 9 (round d)) e
 
-        early_none : lowest_idle d.stops (runners d) ≡ None → earlyBreach d list ≡ None
-        unfolding earlyBreach
+        early_none : lowest_idle d.stops (runners d) ≡ None → early_breach d list ≡ None
+        unfolding early_breach
         early_none e = or_else_next _ _ long ∙ or_else_next _ _ counted ∙ or_else_next _ _ opened ∙ ap (at_lowest 9 (round d)) e
 
   spelled_words : map (word_for d.parts.channel (round d) (runners d) (sending d)) (range_with_len 0 d.n) ≡ words d
@@ -89,9 +89,9 @@ module _ {B : Type 0} (d : Driving B) (list : List ℕ) where
       ∙ word_same d.n _ (alarm d) (λ i l. ap (λ (w : ℕ). alarm_for d.parts.detector (round d) (runners d) (sending d) w i) (word_at d i l))
 
   -- what hearing checks again was checked before
-  hearing_again : earlyBreach d list ≡ None
+  hearing_again : early_breach d list ≡ None
       → hear_breach d.scheme d.n (round d) (sending d) d.table (report d) ≡ report_breach d.scheme (runners d) (sending d) (round d) (words d) (alarms d)
-  unfolding earlyBreach hear_breach
+  unfolding early_breach hear_breach
   hearing_again e =
       let a = none_both (short_table d.n d.table) _ e in
       let b = none_both (word_count d.n (round d) list) _ a.1 in
@@ -108,10 +108,10 @@ module _ {V B M : Type 0} (earlier : B → B → Bool) (tells : M → ℕ → �
   d = by_parts s vote hs stops ch de ma
 
   -- a refusal before the channel is asked
-  early_end : (b : Breach) → earlyBreach d list ≡ Some b → (fault : VoteFault) → vote_breach fault ≡ b → (back : Vote V) → begun_as back ≡ begun_as vote
+  early_end : (b : Breach) → early_breach d list ≡ Some b → (fault : VoteFault) → vote_breach fault ≡ b → (back : Vote V) → begun_as back ≡ begun_as vote
       → Drives earlier tells meant vote d list m (Err (record { back = back; fault = fault })) hs list m
   early_end b e fault f back k =
-      let whole = or_else_this (earlyBreach d list) (report_breach s (runners d) (sending d) (round d) (words d) (alarms d)) b e in
+      let whole = or_else_this (early_breach d list) (report_breach s (runners d) (sending d) (round d) (words d) (alarms d)) b e in
       record {
         answers = ap₂ refused f k ∙ sym (ap (λ o. unless o would (begun_as vote)) whole);
         table = sym (ap (λ o. changed o (after earlier s vote.n (sending d) (round d) hs (report d)) hs) whole);
@@ -127,7 +127,7 @@ module _ {V B M : Type 0} (earlier : B → B → Bool) (tells : M → ℕ → �
       let t = too_short vote.n fault hs e in
       early_end (numbered 4) (at_four t.0) fault (ap vote_breach t.1) vote refl
     where
-      at_four : ltb (length hs) vote.n ≡ true → earlyBreach d list ≡ Some (numbered 4)
+      at_four : ltb (length hs) vote.n ≡ true → early_breach d list ≡ Some (numbered 4)
       at_four f = early_four d list f
 
   module _ (u : ℕ) (is : running_in vote.n hs ≡ Ok u) (r : ℕ) (r-is : r ≡ vote.heard) where
@@ -183,7 +183,7 @@ module _ {V B M : Type 0} (earlier : B → B → Bool) (tells : M → ℕ → �
 
         module _ (none : lowest_idle stops u ≡ None) (σ : ℕ) (σ-is : σ ≡ op.senders) (ws : List ℕ) (ws-is : ws ≡ map (word_for ch (r + 1) u σ) (range_with_len 0 (length list)))
             (al : ℕ) (al-is : al ≡ word_of (length ws) (λ i. alarm_for de (r + 1) u σ (get_or ws i 0) i)) where
-          no_early : earlyBreach d list ≡ None
+          no_early : early_breach d list ≡ None
           no_early = early_none d list long counted opened_by.0 (ap (lowest_idle stops) (sym u_is) ∙ none)
 
           sending_is : σ ≡ sending d
@@ -220,8 +220,8 @@ module _ {V B M : Type 0} (earlier : B → B → Bool) (tells : M → ℕ → �
             unfolding made
             after_is = ap (λ (x : Opened V). after earlier s x.n x.senders (x.heard + 1) hs (report d)) as_made
 
-            whole : driveBreach d list ≡ report_breach s (runners d) (sending d) (round d) (words d) (alarms d)
-            whole = or_else_next (earlyBreach d list) (report_breach s (runners d) (sending d) (round d) (words d) (alarms d)) no_early
+            whole : drive_breach d list ≡ report_breach s (runners d) (sending d) (round d) (words d) (alarms d)
+            whole = or_else_next (early_breach d list) (report_breach s (runners d) (sending d) (round d) (words d) (alarms d)) no_early
 
             heard_is : hear_answer h ≡ heard earlier s op hs (report d)
             heard_is = h-is ∙ ap (heard earlier s op hs) report_is
@@ -229,10 +229,10 @@ module _ {V B M : Type 0} (earlier : B → B → Bool) (tells : M → ℕ → �
             table_is : t ≡ changed (hear_breach s op.n (op.heard + 1) op.senders hs (report d)) (after earlier s op.n op.senders (op.heard + 1) hs (report d)) hs
             table_is = t-is ∙ ap (heard_table earlier s op hs) report_is
 
-            table_end : t ≡ drivenTable d earlier list
+            table_end : t ≡ driven_table d earlier list
             table_end = table_is ∙ ap₂ (λ (o : Option Breach) (x : List (Head B)). changed o x hs) (breach_is ∙ sym whole) after_is
 
-            words_end : ws ≡ drivenList d list
+            words_end : ws ≡ driven_list d list
             words_end = words_are ∙ sym (ap (λ o. changed o (words d) list) no_early)
 
             gives : Opened V → Begun V × Figures
@@ -242,7 +242,7 @@ module _ {V B M : Type 0} (earlier : B → B → Bool) (tells : M → ℕ → �
             unfolding gives made
             heard_ends hr f c c-is m' told last =
                 let g = accepted_by (hear_breach s op.n (op.heard + 1) op.senders hs (report d)) (begun_as hr.vote, hr.figures) (gives (opened_as op)) op (sym (ap hear_answer f) ∙ heard_is) in
-                let clear : driveBreach d list ≡ None = whole ∙ sym breach_is ∙ g.0 in
+                let clear : drive_breach d list ≡ None = whole ∙ sym breach_is ∙ g.0 in
                 record {
                   answers = ap done (g.1 ∙ ap gives as_made) ∙ sym (ap (λ o. unless o (gives made) (begun_as vote)) clear);
                   table = table_end;
@@ -259,7 +259,7 @@ module _ {V B M : Type 0} (earlier : B → B → Bool) (tells : M → ℕ → �
             unfolding gives made
             refused_ends e f v k =
                 let g = refused_by (hear_breach s op.n (op.heard + 1) op.senders hs (report d)) (vote_breach e.fault) e.back (gives (opened_as op)) op (sym (ap hear_answer f) ∙ heard_is) in
-                let broken : driveBreach d list ≡ Some (vote_breach e.fault) = whole ∙ sym breach_is ∙ g.0 in
+                let broken : drive_breach d list ≡ Some (vote_breach e.fault) = whole ∙ sym breach_is ∙ g.0 in
                 record {
                   answers = ap (refused (vote_breach e.fault)) (withdrawn_is v (k ∙ ap withdrawn g.1)) ∙ sym (ap (λ o. unless o (gives made) (begun_as vote)) broken);
                   table = table_end;

@@ -10,7 +10,7 @@ use Rattle.votes.specs.declared.faults.Refused.{Refused}
 use Rattle.votes.specs.declared.stages.Vote.{Vote}
 use Rattle.votes.specs.declared.stages.HeardRound.{HeardRound}
 use Rattle.votes.specs.Rounds.{sent}
-use Rattle.runs.specs.Driving.{Driving, driving, round, sending, alarms, driveBreach, drive_answer, driven, drivenTable, drivenList}
+use Rattle.runs.specs.Driving.{Driving, driving, round, sending, alarms, drive_breach, drive_answer, driven, driven_table, driven_list}
 
 -- a driving of a vote with that table and those stops, by the three parts' meanings
 abbrev pub by_parts : {V B : Type 0} → Scheme B → Vote V → List (Head B) → ℕ → channels.Meaning → detectors.Meaning → managers.Meaning → Driving B
@@ -25,6 +25,6 @@ Managed None tells meant before round c alarms after = tells before round c alar
 pub record Drives {V B M : Type 0} (earlier : B → B → Bool) (tells : M → ℕ → ℕ → ℕ → M → Type 0) (meant : M → managers.Meaning) (vote : Vote V) (d : Driving B) (list : List ℕ) (before : M)
     (answer : Result (HeardRound V) (Refused (Vote V))) (table' : List (Head B)) (list' : List ℕ) (after : M) : Type 0 where
   pub answers : drive_answer answer ≡ driven earlier vote d list
-  pub table : table' ≡ drivenTable d earlier list
-  pub words : list' ≡ drivenList d list
-  pub manager : Managed (driveBreach d list) tells meant before (round d) (sent (sending d)) (alarms d) after
+  pub table : table' ≡ driven_table d earlier list
+  pub words : list' ≡ driven_list d list
+  pub manager : Managed (drive_breach d list) tells meant before (round d) (sent (sending d)) (alarms d) after

@@ -7,7 +7,7 @@ use ballots::Ballot;
 
 // The ballots heard so far and one more.
 fn join<B: Ballot>(so_far: Ballots<B>, ballot: B) -> Ballots<B>
-    ensures { result ≡ joined earlier so_far (Some ballot) }
+    ensures { result ≡ joined B.earlier so_far (Some ballot) }
 {
     match so_far.least {
         None => Ballots {
@@ -32,8 +32,8 @@ fn join<B: Ballot>(so_far: Ballots<B>, ballot: B) -> Ballots<B>
 
 // The estimates of the heads in the hear word: the least of them, and whether two differ.
 pub fn ballots_heard<B: Ballot>(heads: &[Head<B>], word: u64) -> Ballots<B>
-    ensures value { result ≡ ballots_of earlier heads.now word }
-    ensures least { IsLeast earlier heads.now word 64 result.least }
+    ensures value { result ≡ ballots_of B.earlier heads.now word }
+    ensures least { IsLeast B.earlier heads.now word 64 result.least }
     ensures differ { Decides result.differ (TwoHeard heads.now word 64) }
 {
     let mut heard = Ballots {

@@ -13,14 +13,14 @@ pub struct Bitwise;
 
 // Where the round stands in its cycle, from 0.
 fn in_cycle<B: Coded>(round: u32) -> u32
-    ensures { result ≡ in_cycle width round }
+    ensures { result ≡ in_cycle B.width round }
 {
     round.saturating_sub(1) % (B::bits() + 2)
 }
 
 // Bit p of the ballot's code, counted from 1, the highest first.
 fn code_bit<B: Coded>(ballot: B, p: u32) -> bool
-    ensures { result ≡ code_bit width (encoded ballot) p }
+    ensures { result ≡ code_bit B.width (B.encoded ballot) p }
 {
     sets::has(ballot.code() as u64, B::bits().saturating_sub(p) as usize)
 }

@@ -13,7 +13,7 @@ pub struct Split;
 
 // Whether the ballot's code begins with the prefix and the bit.
 fn starts_with<B: Coded>(ballot: B, prefix: Prefix, bit: bool) -> bool
-    ensures { result ≡ begins width (encoded ballot) prefix.bits prefix.length (if bit then 1 else 0) }
+    ensures { result ≡ begins B.width (B.encoded ballot) prefix.bits prefix.length (if bit then 1 else 0) }
 {
     let shift = (B::bits() - 1).saturating_sub(prefix.length as u32);
     (ballot.code() as u32) >> shift == 2 * prefix.bits as u32 + bit as u32
@@ -21,7 +21,7 @@ fn starts_with<B: Coded>(ballot: B, prefix: Prefix, bit: bool) -> bool
 
 // The head with one bit more in its prefix, which is decided once it has W bits.
 fn grow<B: Coded>(head: Head<B>, bit: bool) -> Head<B>
-    ensures { result ≡ grown width decoded head (if bit then 1 else 0) }
+    ensures { result ≡ grown B.width B.decoded head (if bit then 1 else 0) }
 {
     let bits = ((2 * head.prefix.bits as u32 + bit as u32) % (1 << B::bits())) as u16;
     if head.prefix.length as u32 + 1 >= B::bits() {

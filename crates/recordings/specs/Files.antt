@@ -117,29 +117,29 @@ advanced None at figures new hs = going (figures ++ (new ∷ [])) hs
 
 module _ {B : Type 0} (earlier : B → B → Bool) (s : Scheme B) (n : ℕ) (bytes : List ℕ) where
   -- the rule that the record at a place breaks, in the round of that number
-  unfoldable pub playBreach : ℕ → ℕ → List (Head B) → Option Breach
-  playBreach at round hs =
+  unfoldable pub play_breach : ℕ → ℕ → List (Head B) → Option Breach
+  play_breach at round hs =
       or_else (round_breach bytes at n)
       (or_else (open_breach n round hs (turns_at bytes at))
       (hear_breach s n round (senders s round hs n (turns_at bytes at)) hs (report_at bytes at n)))
 
-  unfoldable pub recordsAfter : ℕ → ℕ → List (Head B) → List (Head B)
-  recordsAfter at round hs = after earlier s n (senders s round hs n (turns_at bytes at)) round hs (report_at bytes at n)
+  unfoldable pub records_after : ℕ → ℕ → List (Head B) → List (Head B)
+  records_after at round hs = after earlier s n (senders s round hs n (turns_at bytes at)) round hs (report_at bytes at n)
 
-  unfoldable pub figuresAfter : ℕ → ℕ → List (Head B) → Figures
-  figuresAfter at round hs =
-      figures_of n round (senders s round hs n (turns_at bytes at)) (number 8 bytes (at + 18)) (recordsAfter at round hs)
+  unfoldable pub figures_after : ℕ → ℕ → List (Head B) → Figures
+  figures_after at round hs =
+      figures_of n round (senders s round hs n (turns_at bytes at)) (number 8 bytes (at + 18)) (records_after at round hs)
 
   -- one record
-  abbrev pub playedRound : ℕ → Progress B → Progress B
-  playedRound at (ended figures fault) = ended figures fault
-  playedRound at (going figures hs) =
-      advanced (playBreach at (length figures + 1) hs) at figures (figuresAfter at (length figures + 1) hs) (recordsAfter at (length figures + 1) hs)
+  abbrev pub played_round : ℕ → Progress B → Progress B
+  played_round at (ended figures fault) = ended figures fault
+  played_round at (going figures hs) =
+      advanced (play_breach at (length figures + 1) hs) at figures (figures_after at (length figures + 1) hs) (records_after at (length figures + 1) hs)
 
   -- the records from a place on, one after another while bytes are left; k of them at most
-  unfoldable pub playedFrom : ℕ → ℕ → Progress B → Progress B
-  playedFrom zero at p = p
-  playedFrom (suc k) at p = cond (nat_le (length bytes) at) p (playedFrom k (at + round_size n) (playedRound at p))
+  unfoldable pub played_from : ℕ → ℕ → Progress B → Progress B
+  played_from zero at p = p
+  played_from (suc k) at p = cond (nat_le (length bytes) at) p (played_from k (at + round_size n) (played_round at p))
 
 -- the progress in which a fault, if there is one, ended the playing
 abbrev pub ended_by : {B : Type 0} → Option FileFault → List Figures → List (Head B) → Progress B
@@ -158,8 +158,8 @@ play_answer (Err fault) = refused (record_breach fault) tt
 
 abbrev pub played_one : {V B : Type 0} → (B → B → Bool) → Scheme B → Vote V → List ℕ → ℕ → List (Head B) → Answer (Begun V × Figures) (Unit {0})
 played_one earlier s v bytes at hs =
-    unless (playBreach earlier s v.n bytes at (v.heard + 1) hs)
-    (record { n = v.n; heard = v.heard + 1; method = v.method }, figuresAfter earlier s v.n bytes at (v.heard + 1) hs)
+    unless (play_breach earlier s v.n bytes at (v.heard + 1) hs)
+    (record { n = v.n; heard = v.heard + 1; method = v.method }, figures_after earlier s v.n bytes at (v.heard + 1) hs)
     tt
 
 -- ---- the listing
@@ -196,7 +196,7 @@ started_by None p = p
 unfoldable pub progress_of : {B : Type 0} → (B → B → Bool) → (B → ℕ) → (ℕ → B) → Scheme B → ℕ → List ℕ → Progress B
 progress_of earlier encoded decoded s n bytes =
     started_by (codes_breach encoded decoded bytes n)
-    (playedFrom earlier s n bytes (length bytes) (5 + 2 * n) (going [] (enrolled_from decoded bytes n)))
+    (played_from earlier s n bytes (length bytes) (5 + 2 * n) (going [] (enrolled_from decoded bytes n)))
 
 abbrev pub played_as : {B : Type 0} → (B → B → Bool) → (B → ℕ) → (ℕ → B) → Scheme B → ℕ → List ℕ → Played
 played_as earlier encoded decoded s n bytes = told encoded (progress_of earlier encoded decoded s n bytes)

@@ -60,7 +60,7 @@ pub(crate) fn read_header(bytes: &[u8]) -> Result<Header, RecordFault>
 // Enrolls a head for each of the n codes.
 fn enroll_all<B: Coded>(bytes: &[u8], n: usize, table: &mut [Head<B>]) -> Result<Roll, RecordFault>
     requires { (n ≤ 64) × ((length table.old ≡ n) × (5 + 2 * n ≤ length bytes.now)) }
-    ensures { EnrolledOf encoded decoded bytes.now n table.new result }
+    ensures { EnrolledOf B.encoded B.decoded bytes.now n table.new result }
 {
     let mut roll = Roll::new();
     for i in 0..n {
@@ -78,7 +78,7 @@ pub(crate) fn start<B: Coded, V: Drop>(
     table: &mut [Head<B>],
 ) -> Result<Vote<V>, RecordFault>
     requires { (1 ≤ n) × ((n ≤ 64) × ((length table.old ≡ n) × (5 ≤ length bytes.now))) }
-    ensures { StartedOf encoded decoded bytes.now n table.new result }
+    ensures { StartedOf B.encoded B.decoded bytes.now n table.new result }
 {
     if bytes.len() < 5 + 2 * n {
         return Err(RecordFault::Ends);

@@ -19,7 +19,7 @@ use votes::stages::Figures;
 
 // How a head stands at the end.
 fn outcome<B: Coded>(h: Head<B>) -> Outcome
-    ensures { result ≡ outcome_of encoded h }
+    ensures { result ≡ outcome_of B.encoded h }
 {
     match h.state {
         State::Running => Outcome::Running,
@@ -30,7 +30,7 @@ fn outcome<B: Coded>(h: Head<B>) -> Outcome
 
 // How each head stands at the end.
 fn outcomes<B: Coded>(heap: Global, table: &[Head<B>]) -> Result<Vec<Outcome>, AllocError>
-    ensures { IfOk result (λ v. v.items ≡ map (outcome_of encoded) table.now) }
+    ensures { IfOk result (λ v. v.items ≡ map (outcome_of B.encoded) table.now) }
 {
     let mut list = Vec::new(heap);
     for i in 0..table.len() {
@@ -51,7 +51,7 @@ fn play_table<B: Coded, V: Method<B> + Drop>(
 ) -> Result<Option<FileFault>, AllocError>
     requires heads { (1 ≤ n) × ((n ≤ 64) × ((length table.old ≡ n) × (length words.old ≡ n))) }
     requires file { (5 ≤ length bytes.now) × (rounds.old.items ≡ []) }
-    ensures { IfOk result (λ f. progress_of B.Ballot.earlier encoded decoded V.Method.scheme n bytes.now ≡ ended_by f rounds.new.items table.new) }
+    ensures { IfOk result (λ f. progress_of B.Ballot.earlier B.encoded B.decoded V.Method.scheme n bytes.now ≡ ended_by f rounds.new.items table.new) }
 {
     match start(method, bytes, n, table) {
         Ok(vote) => play_rounds(vote, table, words, bytes, 5 + 2 * n, rounds),
@@ -91,7 +91,7 @@ fn play_as<B: Coded, V: Method<B> + Drop>(
     n: usize,
 ) -> Result<Listing, AllocError>
     requires { (1 ≤ n) × ((n ≤ 64) × (5 ≤ length bytes.now)) }
-    ensures { IfOk result (λ l. listing_as l ≡ played_as B.Ballot.earlier encoded decoded V.Method.scheme n bytes.now) }
+    ensures { IfOk result (λ l. listing_as l ≡ played_as B.Ballot.earlier B.encoded B.decoded V.Method.scheme n bytes.now) }
 {
     let mut rounds = Vec::new(heap);
     let mut table = vacant_table::<B>(heap, n)?;
@@ -127,7 +127,7 @@ fn play_kind<B: Coded>(
     n: usize,
 ) -> Result<Listing, AllocError>
     requires { (1 ≤ n) × ((n ≤ 64) × (5 ≤ length bytes.now)) }
-    ensures { IfOk result (λ l. listing_as l ≡ played_as B.Ballot.earlier encoded decoded (scheme_of vote width encoded decoded) n bytes.now) }
+    ensures { IfOk result (λ l. listing_as l ≡ played_as B.Ballot.earlier B.encoded B.decoded (scheme_of vote B.width B.encoded B.decoded) n bytes.now) }
 {
     match vote {
         VoteKind::Short => play_as::<B, Short>(heap, Short, bytes, n),

@@ -3,7 +3,7 @@ ghost use Rattle.std.specs.Prelude.{◌≡◌, ◌+◌, ◌*◌, ◌≤◌, [], 
 ghost use Rattle.recordings.specs.Files.Progress.{going};
 ghost use Rattle.votes.specs.Calls.{changed};
 ghost use Rattle.recordings.specs.declared.faults.RecordFault.TheVariants.{Vote as VoteLayer};
-ghost use Rattle.recordings.specs.Files.{round_size, checked, round_breach, playBreach, recordsAfter, play_answer, played_one, playedFrom, ended_by};
+ghost use Rattle.recordings.specs.Files.{round_size, checked, round_breach, play_breach, records_after, play_answer, played_one, played_from, ended_by};
 
 use crate::bytes::{is_marked, read_u64, read_words};
 use crate::faults::{FileFault, RecordFault};
@@ -76,8 +76,8 @@ pub(crate) fn play_round<B: Ballot, V: Method<B> + Drop>(
 ) -> Result<HeardRound<V>, RecordFault>
     requires { (length words.old ≡ vote.n) × (at ≤ length bytes.now) }
     ensures whole { OnOk result (at + round_size vote.n ≤ length bytes.now) }
-    ensures answer { play_answer result ≡ played_one earlier V.Method.scheme vote bytes.now at table.old }
-    ensures table { table.new ≡ changed (playBreach earlier V.Method.scheme vote.n bytes.now at (vote.heard + 1) table.old) (recordsAfter earlier V.Method.scheme vote.n bytes.now at (vote.heard + 1) table.old) table.old }
+    ensures answer { play_answer result ≡ played_one B.earlier V.Method.scheme vote bytes.now at table.old }
+    ensures table { table.new ≡ changed (play_breach B.earlier V.Method.scheme vote.n bytes.now at (vote.heard + 1) table.old) (records_after B.earlier V.Method.scheme vote.n bytes.now at (vote.heard + 1) table.old) table.old }
 {
     check_round(bytes, at, words.len())?;
     read_words(bytes, at + 26, words);
@@ -100,7 +100,7 @@ pub(crate) fn play_rounds<B: Ballot, V: Method<B> + Drop>(
     rounds: &mut Vec<Figures>,
 ) -> Result<Option<FileFault>, AllocError>
     requires { (length words.old ≡ start.n) × ((start.heard ≡ 0) × ((from ≤ length bytes.now) × (rounds.old.items ≡ []))) }
-    ensures { IfOk result (λ f. playedFrom earlier V.Method.scheme start.n bytes.now (length bytes.now) from (going [] table.old) ≡ ended_by f rounds.new.items table.new) }
+    ensures { IfOk result (λ f. played_from B.earlier V.Method.scheme start.n bytes.now (length bytes.now) from (going [] table.old) ≡ ended_by f rounds.new.items table.new) }
 {
     let mut vote = start;
     let mut at = from;

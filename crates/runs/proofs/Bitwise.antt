@@ -76,20 +76,20 @@ module _ {B : Type 0} (w : ℕ) (code : B → ℕ) (back : ℕ → B) (coded : C
     past_bits : w < p → T (leb p w) → ⊥
     past_bits l t = let e = leb→le p w t in omega arith
 
-    abbrev own-bit : ℕ → Bool
-    own-bit i = code_bit w (code (st i).estimate) p
+    abbrev own_bit : ℕ → Bool
+    own_bit i = code_bit w (code (st i).estimate) p
 
     -- what a head that goes on keeps
     keeps_ballots : p ≡ 0 → (i : ℕ) → keeps vote (r + 1) (hears q i) (st i) ≡ moved true (hears q i) (st i)
     keeps_ballots e i = cond-true (eqb p 0) _ _ (at_ballots e)
 
-    keeps_bit : 1 ≤ p → p ≤ w → (i : ℕ) → keeps vote (r + 1) (hears q i) (st i) ≡ cond (noisy (hears q i) && not (own-bit i)) (lowered (st i)) (st i)
+    keeps_bit : 1 ≤ p → p ≤ w → (i : ℕ) → keeps vote (r + 1) (hears q i) (st i) ≡ cond (noisy (hears q i) && not (own_bit i)) (lowered (st i)) (st i)
     keeps_bit l m i = cond-false (eqb p 0) _ _ (past_ballots l) ∙ cond-true (leb p w) _ _ (at_bits m)
 
     keeps_veto : w < p → (i : ℕ) → keeps vote (r + 1) (hears q i) (st i) ≡ cond (noisy (hears q i)) (st i) (decided (st i))
     keeps_veto l i = cond-false (eqb p 0) _ _ (past_ballots (omega arith)) ∙ cond-false (leb p w) _ _ (past_bits l)
 
-    sends_bit : 1 ≤ p → p ≤ w → (k : ℕ) → says vote (r + 1) (q.turn k) (st k) ≡ own-bit k
+    sends_bit : 1 ≤ p → p ≤ w → (k : ℕ) → says vote (r + 1) (q.turn k) (st k) ≡ own_bit k
     sends_bit l m k = cond-false (eqb p 0) _ _ (past_ballots l) ∙ cond-true (leb p w) _ _ (at_bits m)
 
     sends_veto : w < p → (k : ℕ) → says vote (r + 1) (q.turn k) (st k) ≡ not (st k).flag
@@ -126,7 +126,7 @@ module _ {B : Type 0} (w : ℕ) (code : B → ℕ) (back : ℕ → B) (coded : C
             → (T (done st i) × (st' i ≡ st i)) ⊎ Newly i
         go (inl x) o = inl x
         go (inr x) (inl e) = absurd (not_both (st i).state x.0 (subst (λ (h : Head B). T (is_decided h.state)) (x.1 ∙ keeps_ballots e i) t))
-        go (inr x) (inr (inl l)) = absurd (flagged (noisy (hears q i) && not (own-bit i)) (st i) x.0 (subst (λ (h : Head B). T (is_decided h.state)) (x.1 ∙ keeps_bit l.0 l.1 i) t))
+        go (inr x) (inr (inl l)) = absurd (flagged (noisy (hears q i) && not (own_bit i)) (st i) x.0 (subst (λ (h : Head B). T (is_decided h.state)) (x.1 ∙ keeps_bit l.0 l.1 i) t))
         go (inr x) (inr (inr l)) = inr (x.0, l, quiet (noisy (hears q i)) (st i) x.0 (subst (λ (h : Head B). T (is_decided h.state)) (x.1 ∙ keeps_veto l i) t))
 
     -- only a round of ballots moves an estimate
@@ -143,7 +143,7 @@ module _ {B : Type 0} (w : ℕ) (code : B → ℕ) (back : ℕ → B) (coded : C
 
         go : (w < p) ⊎ (p ≤ w) → (keeps vote (r + 1) (hears q i) (st i)).estimate ≡ (st i).estimate
         go (inl m) = ap (λ (h : Head B). h.estimate) (keeps_veto m i) ∙ high (noisy (hears q i)) (st i)
-        go (inr m) = ap (λ (h : Head B). h.estimate) (keeps_bit l m i) ∙ low (noisy (hears q i) && not (own-bit i)) (st i)
+        go (inr m) = ap (λ (h : Head B). h.estimate) (keeps_bit l m i) ∙ low (noisy (hears q i) && not (own_bit i)) (st i)
 
     est_same : 1 ≤ p → (i : ℕ) → (st' i).estimate ≡ (st i).estimate
     est_same l i = go (decide (runs st i)) (decide (q.stop i))
@@ -167,8 +167,8 @@ module _ {B : Type 0} (w : ℕ) (code : B → ℕ) (back : ℕ → B) (coded : C
 
     -- of two running heads that differ in the bit asked, the one with 0 lowers its flag
     module _ (l : 1 ≤ p) (m : p ≤ w) where
-      flag_kept : (j : ℕ) → T (runs st' j) → T (st' j).flag → T (st j).flag × ((T (noisy (hears q j)) → ⊥) ⊎ T (own-bit j))
-      flag_kept j t f = go (noisy (hears q j)) (own-bit j) (λ x. x) (λ x. x) (subst (λ (h : Head B). T h.flag) (went d j t ∙ keeps_bit l m j) f)
+      flag_kept : (j : ℕ) → T (runs st' j) → T (st' j).flag → T (st j).flag × ((T (noisy (hears q j)) → ⊥) ⊎ T (own_bit j))
+      flag_kept j t f = go (noisy (hears q j)) (own_bit j) (λ x. x) (λ x. x) (subst (λ (h : Head B). T h.flag) (went d j t ∙ keeps_bit l m j) f)
         where
           go : (a b : Bool) → (T (noisy (hears q j)) → T (noisy (hears q j))) → (T b → T b) → T (cond (a && not b) (lowered (st j)) (st j)).flag
               → T (st j).flag × ((T a → ⊥) ⊎ T b)
@@ -176,13 +176,13 @@ module _ {B : Type 0} (w : ℕ) (code : B → ℕ) (back : ℕ → B) (coded : C
           go true false x y f = absurd f
           go false b x y f = (f, inl (λ z. z))
 
-      asked : Small st → (i j : ℕ) → T (runs st' i) → T (runs st' j) → T (st' j).flag → T (own-bit i) → T (own-bit j)
+      asked : Small st → (i j : ℕ) → T (runs st' i) → T (runs st' j) → T (st' j).flag → T (own_bit i) → T (own_bit j)
       asked small i j ti tj f one = go (flag_kept j tj f).1
         where
           u : T (runs st i)
           u = (runs_back d i ti).0
 
-          go : (T (noisy (hears q j)) → ⊥) ⊎ T (own-bit j) → T (own-bit j)
+          go : (T (noisy (hears q j)) → ⊥) ⊎ T (own_bit j) → T (own_bit j)
           go (inr t) = t
           go (inl quiet) = absurd (silence d small j (runs_back d j tj).0 quiet i (and_both (runs st i) _ u (subst T (sym (sends_bit l m i)) one)))
 
@@ -259,17 +259,17 @@ module _ {B : Type 0} (w : ℕ) (code : B → ℕ) (back : ℕ → B) (coded : C
 
     calm_bit : (1 ≤ place w r) → (place w r ≤ w) → Same st → Same st'
     calm_bit l m S = record {
-      up = λ i t. subst (λ (h : Head B). T h.flag) (sym (went d i t ∙ keeps_bit d l m i)) (stays i (runs_back d i t).0 (noisy (hears q i)) (own-bit d i) (λ x. x) (λ x. x));
+      up = λ i t. subst (λ (h : Head B). T h.flag) (sym (went d i t ∙ keeps_bit d l m i)) (stays i (runs_back d i t).0 (noisy (hears q i)) (own_bit d i) (λ x. x) (λ x. x));
       one = λ i j ti tj. est_same d l i ∙ S.one i j (runs_back d i ti).0 (runs_back d j tj).0 ∙ sym (est_same d l j);
     }
       where
         -- noise at a head whose bit is 0 would come from one whose bit is 1
-        disturbed : (i : ℕ) → T (runs st i) → (T (own-bit d i) → ⊥) → T (noisy (hears q i)) → ⊥
+        disturbed : (i : ℕ) → T (runs st i) → (T (own_bit d i) → ⊥) → T (noisy (hears q i)) → ⊥
         disturbed i u f = no_noise d C (λ j t.
             f (subst (λ (b : B). T (code_bit w (code b) (place w r))) (S.one j i (sender_runs d j t) u)
             (subst T (sends_bit d l m j) (and_right (runs st j) _ t)))) i
 
-        stays : (i : ℕ) → T (runs st i) → (a b : Bool) → (T a → T (noisy (hears q i))) → (T (own-bit d i) → T b) → T (cond (a && not b) (lowered (st i)) (st i)).flag
+        stays : (i : ℕ) → T (runs st i) → (a b : Bool) → (T a → T (noisy (hears q i))) → (T (own_bit d i) → T b) → T (cond (a && not b) (lowered (st i)) (st i)).flag
         stays i u true true x y = S.up i u
         stays i u true false x y = absurd (disturbed i u y (x tt))
         stays i u false b x y = S.up i u

@@ -19,7 +19,7 @@ use Rattle.votes.specs.Tables.{running}
 use Rattle.votes.specs.Rounds.{Report, senders, after}
 use Rattle.votes.specs.Calls.{unless, changed, Begun, Opened, begun_as, opened_as, short_table, open_breach, open_answer, opened, withdrawn, hear_breach, figures_of, hear_answer, heard, heard_table}
 use Rattle.runs.specs.Calm.{Calm, CalmBy, OneTurn}
-use Rattle.runs.specs.Driving.{Parts, Driving, driving, round, runners, turns, sending, alarms, report, driveBreach, drive_answer, driven, drivenTable}
+use Rattle.runs.specs.Driving.{Parts, Driving, driving, round, runners, turns, sending, alarms, report, drive_breach, drive_answer, driven, driven_table}
 use Rattle.runs.specs.Chains.{Stage, voting, in_open_round, heads, rounds, after_opening, after_hearing, after_driving, Handed, whole, too_short, standing, Counts, Calls, none, opens, withdraws, hears, drives}
 use Rattle.runs.specs.Promise.{Steps}
 use Rattle.runs.specs.Promise.Steps.{step}
@@ -283,10 +283,10 @@ module _ {B : Type 0} (earlier : B → B → Bool) (order : Total earlier) (s : 
 
     drives_on : {hs : List (Head B)} {k : ℕ} (vote : Vote V) → Good (voting vote) hs k → (given : List (Head B)) → Handed vote.n hs given → (stops : ℕ) (list : List ℕ) (parts : Parts)
         → (answer : Result (HeardRound V) (Refused (Vote V))) → drive_answer answer ≡ driven earlier vote (driving s vote given stops parts) list
-        → (k' : ℕ) → Counts (driveBreach (driving s vote given stops parts) list)
+        → (k' : ℕ) → Counts (drive_breach (driving s vote given stops parts) list)
         (Calm s (turns (driving s vote given stops parts)) (runners (driving s vote given stops parts)) (sending (driving s vote given stops parts)) (report (driving s vote given stops parts))) k k'
-        → Good (after_driving answer) (standing vote.n hs (drivenTable (driving s vote given stops parts) earlier list)) k'
-    drives_on {hs} {k} vote G given handed stops list parts answer e k' c = go (driveBreach d list) refl answer e c
+        → Good (after_driving answer) (standing vote.n hs (driven_table (driving s vote given stops parts) earlier list)) k'
+    drives_on {hs} {k} vote G given handed stops list parts answer e k' c = go (drive_breach d list) refl answer e c
       where
         d : Driving B
         d = driving s vote given stops parts
@@ -294,7 +294,7 @@ module _ {B : Type 0} (earlier : B → B → Bool) (order : Total earlier) (s : 
         moved : List (Head B)
         moved = after earlier s vote.n (sending d) (vote.heard + 1) given (report d)
 
-        go : (x : Option Breach) → driveBreach d list ≡ x
+        go : (x : Option Breach) → drive_breach d list ≡ x
             → (answer : Result (HeardRound V) (Refused (Vote V)))
             → drive_answer answer ≡ unless x (record { n = vote.n; heard = vote.heard + 1; method = vote.method }, figures_of vote.n (vote.heard + 1) (sending d) (alarms d) moved) (begun_as vote)
             → Counts x (Calm s (turns d) (runners d) (sending d) (report d)) k k'
@@ -356,5 +356,5 @@ module _ {B : Type 0} (earlier : B → B → Bool) (order : Total earlier) (s : 
         decided_standing o.n o.senders (o.heard + 1) q (hear_breach s o.n (o.heard + 1) o.senders given q) handed i h
         (subst (λ (m : ℕ). i < m) (sym (good_on G c).roll) l) (kept_on G c i h l e d) d
     kept_on G (drives {vote = vote} c given handed stops list parts answer f k' w) i h l e d =
-        decided_standing vote.n (sending (driving s vote given stops parts)) (vote.heard + 1) (report (driving s vote given stops parts)) (driveBreach (driving s vote given stops parts) list) handed i h
+        decided_standing vote.n (sending (driving s vote given stops parts)) (vote.heard + 1) (report (driving s vote given stops parts)) (drive_breach (driving s vote given stops parts) list) handed i h
         (subst (λ (m : ℕ). i < m) (sym (good_on G c).roll) l) (kept_on G c i h l e d) d

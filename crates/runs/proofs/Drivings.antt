@@ -11,7 +11,7 @@ use Rattle.heads.specs.Rules.{Scheme}
 use Rattle.votes.specs.Tables.{running, lowest_idle}
 use Rattle.votes.specs.Rounds.{Report, breach_at, report_breach}
 use Rattle.votes.specs.Calls.{short_table, word_count, open_breach, hear_breach, rounds_spent, none_runs}
-use Rattle.runs.specs.Driving.{Driving, round, runners, turns, sending, word, words, alarms, report, earlyBreach, driveBreach}
+use Rattle.runs.specs.Driving.{Driving, round, runners, turns, sending, word, words, alarms, report, early_breach, drive_breach}
 use Rattle.runs.proofs.Views.{none_both, when_none, first_none, lowest_none_at, idle_none, Accepted}
 
 -- a table that is not refused has a record for every head
@@ -35,10 +35,10 @@ pub record DrivenOn {B : Type 0} (d : Driving B) : Type 0 where
   pub opened : open_breach d.n (round d) d.table (turns d) ≡ None
   pub accepted : Accepted d.scheme d.n d.heard d.table (sending d) (report d)
 
-pub driven_on : {B : Type 0} (d : Driving B) (list : List ℕ) → driveBreach d list ≡ None → DrivenOn d
-unfolding earlyBreach report_breach
+pub driven_on : {B : Type 0} (d : Driving B) (list : List ℕ) → drive_breach d list ≡ None → DrivenOn d
+unfolding early_breach report_breach
 driven_on d list e =
-    let a = none_both (earlyBreach d list) _ e in
+    let a = none_both (early_breach d list) _ e in
     let b = none_both (short_table d.n d.table) _ a.0 in
     let c = none_both (word_count d.n (round d) list) _ b.1 in
     let f = none_both (open_breach d.n (round d) d.table (turns d)) _ c.1 in

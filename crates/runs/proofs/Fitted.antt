@@ -21,7 +21,7 @@ use Rattle.votes.specs.Tables.{stands, in_state, running, lowest_idle}
 use Rattle.votes.specs.Rounds.{speaks, sends, senders, sent, heard_of, idle_noise, stranger, breach_of, breach_at, report_breach}
 use Rattle.votes.specs.Calls.{short_table, word_count, at_lowest, open_breach, rounds_spent, none_runs}
 use Rattle.runs.specs.Calm.{Calm, CalmBy}
-use Rattle.runs.specs.Driving.{Driving, round, runners, turns, sending, word, alarm, words, alarms, report, earlyBreach, driveBreach}
+use Rattle.runs.specs.Driving.{Driving, round, runners, turns, sending, word, alarm, words, alarms, report, early_breach, drive_breach}
 use Rattle.runs.specs.Promise.{Takes, Fitting, largest, plain_breach}
 use Rattle.runs.proofs.Tests.{and_right, holds, fails, is_true, is_false, cond-true, cond-false}
 use Rattle.runs.proofs.Counts.{count_mono}
@@ -214,8 +214,8 @@ module _ {B : Type 0} (d : Driving B) (few : d.n ≤ 64) (f : Fitting d.scheme d
 
   -- ---- refused exactly by 4, 8, 5, 6 and 9
 
-  pub carries_out : (list : List ℕ) → driveBreach d list ≡ plain_breach d list
-  unfolding earlyBreach
+  pub carries_out : (list : List ℕ) → drive_breach d list ≡ plain_breach d list
+  unfolding early_breach
   carries_out list =
       go (short_table d.n d.table) (word_count d.n (round d) list) (rounds_spent (round d)) (none_runs (round d) (runners d))
       (at_lowest 7 (round d) (lowest_idle (turns d) (runners d))) (at_lowest 9 (round d) (lowest_idle d.stops (runners d)))
@@ -239,7 +239,7 @@ module _ {B : Type 0} (d : Driving B) (few : d.n ≤ 64) (f : Fitting d.scheme d
   some_lowest None e = absurd (true≢false e)
   some_lowest (Some i) e = (i, refl)
 
-  pub calm_in_time : (list : List ℕ) → calmness s ≡ one_turn → driveBreach d list ≡ None → largest d.parts ≤ round d → Calm s (turns d) (runners d) (sending d) (report d)
+  pub calm_in_time : (list : List ℕ) → calmness s ≡ one_turn → drive_breach d list ≡ None → largest d.parts ≤ round d → Calm s (turns d) (runners d) (sending d) (report d)
   calm_in_time list kind e late = subst (λ (x : Calmness). CalmBy x (turns d) (runners d) (sending d) (report d)) (sym kind) (record {
     one = f.manager.one (round d) (runners d) runner.0 (timely within_time) (omega arith) found.below found.holds;
     no_false = λ i l x.

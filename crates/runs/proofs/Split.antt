@@ -121,16 +121,16 @@ module _ {B : Type 0} (w : ℕ) (code : B → ℕ) (back : ℕ → B) (coded : C
     abbrev f : Bool
     f = odd (r + 1)
 
-    abbrev noise-at : ℕ → Bool
-    noise-at i = noisy (hears q i)
+    abbrev noise_at : ℕ → Bool
+    noise_at i = noisy (hears q i)
 
-    abbrev fate-of : ℕ → Fate
-    fate-of i = fate w f (noise-at i) (st i).prefix (st i).noise
+    abbrev fate_of : ℕ → Fate
+    fate_of i = fate w f (noise_at i) (st i).prefix (st i).noise
 
-    goes : (i : ℕ) → T (runs st i) → (T (q.stop i) → ⊥) → st' i ≡ settle (fate-of i) (st i)
+    goes : (i : ℕ) → T (runs st i) → (T (q.stop i) → ⊥) → st' i ≡ settle (fate_of i) (st i)
     goes i u p = d.goes_on i u p ∙ keeps_settles (r + 1) (hears q i) (st i)
 
-    still : (i : ℕ) → T (runs st' i) → st' i ≡ settle (fate-of i) (st i)
+    still : (i : ℕ) → T (runs st' i) → st' i ≡ settle (fate_of i) (st i)
     still i t = let b = runs_back d i t in goes i b.0 b.1
 
     first_same : (i : ℕ) → (st' i).first ≡ (st i).first
@@ -143,11 +143,11 @@ module _ {B : Type 0} (w : ℕ) (code : B → ℕ) (back : ℕ → B) (coded : C
         go : Or (runs st i) → Or (q.stop i) → (st' i).first ≡ (st i).first
         go (inr v) p = ap (λ (h : Head B). h.first) (d.idle i v)
         go (inl u) (inl p) = ap (λ (h : Head B). h.first) (d.halts i u p)
-        go (inl u) (inr p) = ap (λ (h : Head B). h.first) (goes i u p) ∙ either (fate-of i).over _ _ refl refl
+        go (inl u) (inr p) = ap (λ (h : Head B). h.first) (goes i u p) ∙ either (fate_of i).over _ _ refl refl
 
     -- a head that went on and runs: its prefix is not full
-    running_fate : (i : ℕ) → T (runs st' i) → (T (fate-of i).over → ⊥) × ((st' i).prefix ≡ (fate-of i).prefix) × ((st' i).noise ≡ (fate-of i).noise)
-    running_fate i t = go (fate-of i) (still i t)
+    running_fate : (i : ℕ) → T (runs st' i) → (T (fate_of i).over → ⊥) × ((st' i).prefix ≡ (fate_of i).prefix) × ((st' i).noise ≡ (fate_of i).noise)
+    running_fate i t = go (fate_of i) (still i t)
       where
         go : (x : Fate) → st' i ≡ settle x (st i) → (T x.over → ⊥) × ((st' i).prefix ≡ x.prefix) × ((st' i).noise ≡ x.noise)
         go x e = by x.over e
@@ -157,19 +157,19 @@ module _ {B : Type 0} (w : ℕ) (code : B → ℕ) (back : ℕ → B) (coded : C
             by false e = (λ o. o, ap (λ (h : Head B). h.prefix) e, ap (λ (h : Head B). h.noise) e)
 
     -- a head that newly decided: its prefix is full
-    decided_fate : (i : ℕ) → T (runs st i) → st' i ≡ settle (fate-of i) (st i) → T (done st' i) → T (fate-of i).over × ((st' i).estimate ≡ back (fate-of i).prefix.bits)
-    decided_fate i u e t = by (fate-of i).over (fate-of i).prefix (fate-of i).noise e
+    decided_fate : (i : ℕ) → T (runs st i) → st' i ≡ settle (fate_of i) (st i) → T (done st' i) → T (fate_of i).over × ((st' i).estimate ≡ back (fate_of i).prefix.bits)
+    decided_fate i u e t = by (fate_of i).over (fate_of i).prefix (fate_of i).noise e
       where
         by : (o : Bool) (p : Prefix) (z : Bool) → st' i ≡ settle (record { over = o; prefix = p; noise = z }) (st i) → T o × ((st' i).estimate ≡ back p.bits)
         by true p z e = (tt, ap (λ (h : Head B). h.estimate) e)
         by false p z e = absurd (not_both (st i).state u (subst (λ (h : Head B). T (is_decided h.state)) e t))
 
-    goes_on_runs : (i : ℕ) → T (runs st i) → (T (q.stop i) → ⊥) → (T (fate-of i).over → ⊥) → T (runs st' i)
+    goes_on_runs : (i : ℕ) → T (runs st i) → (T (q.stop i) → ⊥) → (T (fate_of i).over → ⊥) → T (runs st' i)
     goes_on_runs i u p o =
-        subst (λ (h : Head B). T (is_running h.state)) (sym (goes i u p ∙ cond-false (fate-of i).over _ _ o)) u
+        subst (λ (h : Head B). T (is_running h.state)) (sym (goes i u p ∙ cond-false (fate_of i).over _ _ o)) u
 
     abbrev Went : ℕ → Type 0
-    Went i = (T (done st i) × (st' i ≡ st i)) ⊎ (T (runs st i) × (st' i ≡ settle (fate-of i) (st i)))
+    Went i = (T (done st i) × (st' i ≡ st i)) ⊎ (T (runs st i) × (st' i ≡ settle (fate_of i) (st i)))
 
     done_went : (i : ℕ) → T (done st' i) → Went i
     done_went i t = go (done_back d i t)
@@ -180,7 +180,7 @@ module _ {B : Type 0} (w : ℕ) (code : B → ℕ) (back : ℕ → B) (coded : C
 
     -- ---- noise is common: it is there exactly where some head sends
 
-    noise_sender : (i : ℕ) → T (noise-at i) → (k : ℕ) × T (sends vote r st q k)
+    noise_sender : (i : ℕ) → T (noise_at i) → (k : ℕ) × T (sends vote r st q k)
     noise_sender i t = go (or_cases (ltb 0 (heard q i)) (q.alarm i) t)
       where
         from_word : 0 < heard q i → (k : ℕ) × T (sends vote r st q k)
@@ -199,21 +199,21 @@ module _ {B : Type 0} (w : ℕ) (code : B → ℕ) (back : ℕ → B) (coded : C
             go_pos (inr l) = from_word l
         go (inr a) = by_alarm a (eq-zero-or-pos (total vote r st q)) (eq-zero-or-pos (heard q i))
 
-    sender_noise : Small st → (i : ℕ) → T (runs st i) → (k : ℕ) → T (sends vote r st q k) → T (noise-at i)
-    sender_noise small i u k t = go (decide (noise-at i))
+    sender_noise : Small st → (i : ℕ) → T (runs st i) → (k : ℕ) → T (sends vote r st q k) → T (noise_at i)
+    sender_noise small i u k t = go (decide (noise_at i))
       where
-        go : Or (noise-at i) → T (noise-at i)
+        go : Or (noise_at i) → T (noise_at i)
         go (inl x) = x
         go (inr x) = absurd (silence d small i u x k t)
 
-    noise_same : Small st → (i j : ℕ) → T (runs st i) → T (runs st j) → noise-at i ≡ noise-at j
+    noise_same : Small st → (i j : ℕ) → T (runs st i) → T (runs st j) → noise_at i ≡ noise_at j
     noise_same small i j u v =
-        same_test (noise-at i) (noise-at j)
+        same_test (noise_at i) (noise_at j)
         (λ t. let k = noise_sender i t in sender_noise small j v k.0 k.1)
         (λ t. let k = noise_sender j t in sender_noise small i u k.0 k.1)
 
   module _ {n : ℕ} {first : ℕ → B} {r : ℕ} {st : Heads B} {q : Events B} {st' : Heads B} (I : Inv n first r st) (d : Step vote r st q st') where
-    fate_same : (i j : ℕ) → T (runs st i) → T (runs st j) → fate-of d i ≡ fate-of d j
+    fate_same : (i j : ℕ) → T (runs st i) → T (runs st j) → fate_of d i ≡ fate_of d j
     fate_same i j u v =
         ap (λ (x : Bool). fate w (odd (r + 1)) x (st i).prefix (st i).noise) (noise_same d (below_64 I) i j u v)
         ∙ ap₂ (λ (p : Prefix) (z : Bool). fate w (odd (r + 1)) (noisy (hears q j)) p z) (I.shared i j u v) (I.noise i j u v)
@@ -258,7 +258,7 @@ module _ {B : Type 0} (w : ℕ) (code : B → ℕ) (back : ℕ → B) (coded : C
         lt_of (inl x) o = x
         lt_of (inr x) o = absurd (o (holds (le-leb w ((st i).prefix.length + 1) x)))
 
-    sound_fate : (i : ℕ) → T (runs st i) → Sound (fate-of d i)
+    sound_fate : (i : ℕ) → T (runs st i) → Sound (fate_of d i)
     sound_fate i u = by (odd (r + 1)) refl
       where
         x : Bool
@@ -312,7 +312,7 @@ module _ {B : Type 0} (w : ℕ) (code : B → ℕ) (back : ℕ → B) (coded : C
         back_runs : (i : ℕ) → T (runs st' i) → T (runs st i)
         back_runs i t = (runs_back d i t).0
 
-        apart : (i j : ℕ) → T (done st' i) → T (runs st j) → (T (fate-of d j).over → ⊥) → Went d i → ⊥
+        apart : (i j : ℕ) → T (done st' i) → T (runs st j) → (T (fate_of d j).over → ⊥) → Went d i → ⊥
         apart i j t v o (inl x) = I.together i j x.0 v
         apart i j t v o (inr x) = o (subst (λ (z : Fate). T z.over) (fate_same i j x.0 v) (decided_fate d i x.0 x.1 t).0)
 
@@ -329,8 +329,8 @@ module _ {B : Type 0} (w : ℕ) (code : B → ℕ) (back : ℕ → B) (coded : C
             let z = decided_fate d i x.0 x.1 t in
             let s = sound_fate i x.0 in
             let v = s.begun in
-            let none_left : w - (fate-of d i).prefix.length ≡ 0 = let e = s.all z.0 in omega arith in
-            let whole : code (first v.0) ≡ (fate-of d i).prefix.bits = sym (div-one (code (first v.0))) ∙ ap (λ (k : ℕ). code (first v.0) / 2 ^ k) (sym none_left) ∙ v.2 in
+            let none_left : w - (fate_of d i).prefix.length ≡ 0 = let e = s.all z.0 in omega arith in
+            let whole : code (first v.0) ≡ (fate_of d i).prefix.bits = sym (div-one (code (first v.0))) ∙ ap (λ (k : ℕ). code (first v.0) / 2 ^ k) (sym none_left) ∙ v.2 in
             (v.0, v.1, sym (coded.back (first v.0)) ∙ ap back whole ∙ sym z.1)
 
   -- ---- rounds in which no head stops
@@ -381,13 +381,13 @@ module _ {B : Type 0} (w : ℕ) (code : B → ℕ) (back : ℕ → B) (coded : C
     live_back k v L = (L.0, (runs_back d L.0 L.1).0, ap (λ (x : B). code x / 2 ^ k) (sym (first_same d L.0)) ∙ L.2)
 
     -- noise comes from a live head with the bit asked, and such a head makes noise
-    noise_live : (i : ℕ) → T (runs st i) → T (noise-at d i) → Live st (w - ((st i).prefix.length + 1)) (2 * (st i).prefix.bits + bit_of (odd (r + 1)))
+    noise_live : (i : ℕ) → T (runs st i) → T (noise_at d i) → Live st (w - ((st i).prefix.length + 1)) (2 * (st i).prefix.bits + bit_of (odd (r + 1)))
     noise_live i u t =
         let k = noise_sender d i t in
         let s = sent I d i u k.0 k.1 in
         (k.0, sender_runs d k.0 k.1, ap (λ (x : B). code x / 2 ^ (w - ((st i).prefix.length + 1))) (I.own k.0 s.0) ∙ s.1)
 
-    live_noise : (i : ℕ) → T (runs st i) → Live st (w - ((st i).prefix.length + 1)) (2 * (st i).prefix.bits + bit_of (odd (r + 1))) → T (noise-at d i)
+    live_noise : (i : ℕ) → T (runs st i) → Live st (w - ((st i).prefix.length + 1)) (2 * (st i).prefix.bits + bit_of (odd (r + 1))) → T (noise_at d i)
     live_noise i u L =
         sender_noise d (below_64 I) i u L.0
         (and_both (runs st L.0) _ L.1
@@ -409,7 +409,7 @@ module _ {B : Type 0} (w : ℕ) (code : B → ℕ) (back : ℕ → B) (coded : C
             omega (arith, z))
 
     kind_step : (m : ℕ) (i : ℕ) → T (runs st' i) → (g : Bool) → odd (r + 1) ≡ g → Kind g (st i).prefix (st i).noise st (suc m)
-        → Kind (not g) (fate w g (noise-at d i) (st i).prefix (st i).noise).prefix (fate w g (noise-at d i) (st i).prefix (st i).noise).noise st' m
+        → Kind (not g) (fate w g (noise_at d i) (st i).prefix (st i).noise).prefix (fate w g (noise_at d i) (st i).prefix (st i).noise).noise st' m
     kind_step m i t true odd_is K = go K (live? (w - p.length) p.bits)
       where
         p : Prefix
@@ -424,13 +424,13 @@ module _ {B : Type 0} (w : ℕ) (code : B → ℕ) (back : ℕ → B) (coded : C
         asked : bit_of (odd (r + 1)) ≡ 0
         asked = ap bit_of odd_is
 
-        heard_zero : T (noise-at d i) → Live st (w - (p.length + 1)) (2 * p.bits + 0)
+        heard_zero : T (noise_at d i) → Live st (w - (p.length + 1)) (2 * p.bits + 0)
         heard_zero x = subst (λ (b : ℕ). Live st (w - (p.length + 1)) (2 * p.bits + b)) asked (noise_live i u x)
 
-        zero_heard : Live st (w - (p.length + 1)) (2 * p.bits + 0) → T (noise-at d i)
+        zero_heard : Live st (w - (p.length + 1)) (2 * p.bits + 0) → T (noise_at d i)
         zero_heard L = live_noise i u (subst (λ (b : ℕ). Live st (w - (p.length + 1)) (2 * p.bits + b)) (sym asked) L)
 
-        go : Kind true p (st i).noise st (suc m) → Live st (w - p.length) p.bits ⊎ (Live st (w - p.length) p.bits → ⊥) → Kind false p (noise-at d i) st' m
+        go : Kind true p (st i).noise st (suc m) → Live st (w - p.length) p.bits ⊎ (Live st (w - p.length) p.bits → ⊥) → Kind false p (noise_at d i) st' m
         go K (inl L) = inl (
           λ x. live_on i t _ _ (heard_zero x),
           λ x. live_on i t _ _ (L.0, L.1, other (code (st L.0).first) (w - (p.length + 1)) p.bits (subst (λ (k : ℕ). code (st L.0).first / 2 ^ k ≡ p.bits) rest L.2) (λ e. x (zero_heard (L.0, L.1, e)))),
@@ -446,7 +446,7 @@ module _ {B : Type 0} (w : ℕ) (code : B → ℕ) (back : ℕ → B) (coded : C
           λ L. N (live_back _ _ L),
           omega arith,
         ))
-    kind_step m i t false odd_is K = go (st i).noise (noise-at d i) (λ x. x) (λ x. x) (λ x. x) (λ x. x) K (running_fate d i t).0
+    kind_step m i t false odd_is K = go (st i).noise (noise_at d i) (λ x. x) (λ x. x) (λ x. x) (λ x. x) K (running_fate d i t).0
       where
         p : Prefix
         p = (st i).prefix
@@ -460,10 +460,10 @@ module _ {B : Type 0} (w : ℕ) (code : B → ℕ) (back : ℕ → B) (coded : C
         asked : bit_of (odd (r + 1)) ≡ 1
         asked = ap bit_of odd_is
 
-        heard_one : T (noise-at d i) → Live st (w - (p.length + 1)) (2 * p.bits + 1)
+        heard_one : T (noise_at d i) → Live st (w - (p.length + 1)) (2 * p.bits + 1)
         heard_one x = subst (λ (b : ℕ). Live st (w - (p.length + 1)) (2 * p.bits + b)) asked (noise_live i u x)
 
-        one_heard : Live st (w - (p.length + 1)) (2 * p.bits + 1) → T (noise-at d i)
+        one_heard : Live st (w - (p.length + 1)) (2 * p.bits + 1) → T (noise_at d i)
         one_heard L = live_noise i u (subst (λ (b : ℕ). Live st (w - (p.length + 1)) (2 * p.bits + b)) (sym asked) L)
 
         -- the number that the prefix grows to is not cut
@@ -481,8 +481,8 @@ module _ {B : Type 0} (w : ℕ) (code : B → ℕ) (back : ℕ → B) (coded : C
         fewer : 2 * (w - p.length) ≤ suc (suc m) → 2 * (w - (p.length + 1)) ≤ m
         fewer k = omega (arith, rest)
 
-        go : (a b : Bool) → (T a → T (st i).noise) → (T (st i).noise → T a) → (T b → T (noise-at d i)) → (T (noise-at d i) → T b)
-            → Kind false p (st i).noise st (suc m) → (T (fate-of d i).over → ⊥)
+        go : (a b : Bool) → (T a → T (st i).noise) → (T (st i).noise → T a) → (T b → T (noise_at d i)) → (T (noise_at d i) → T b)
+            → Kind false p (st i).noise st (suc m) → (T (fate_of d i).over → ⊥)
             → Kind true (cond a (add w p 0) (cond b (add w p 1) none_yet)).prefix (cond a (add w p 0) (cond b (add w p 1) none_yet)).noise st' m
         go a b x x' y y' (inr (inr k)) o = inr (omega arith)
         go true b x x' y y' (inl k) o = inl (grown 0 zero-le (k.0 (x tt)), fewer k.2)
@@ -499,5 +499,5 @@ module _ {B : Type 0} (w : ℕ) (code : B → ℕ) (back : ℕ → B) (coded : C
         let x = running_fate d i t in
         subst (λ (g : Bool). Kind g (st' i).prefix (st' i).noise st' m) (sym (odd_next (r + 1)))
         (subst (λ (p : Prefix). Kind (not (odd (r + 1))) p (st' i).noise st' m) (sym x.1)
-        (subst (λ (z : Bool). Kind (not (odd (r + 1))) (fate-of d i).prefix z st' m) (sym x.2)
+        (subst (λ (z : Bool). Kind (not (odd (r + 1))) (fate_of d i).prefix z st' m) (sym x.2)
         (kind_step m i t (odd (r + 1)) refl (L i (runs_back d i t).0))))

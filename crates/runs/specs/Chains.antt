@@ -13,7 +13,7 @@ use Rattle.votes.specs.Tables.{running}
 use Rattle.votes.specs.Rounds.{Report}
 use Rattle.votes.specs.Calls.{begun_as, open_answer, opened, withdrawn, hear_breach, hear_answer, heard, heard_table, fresh}
 use Rattle.runs.specs.Calm.{Calm}
-use Rattle.runs.specs.Driving.{Parts, driving, driveBreach, drive_answer, driven, drivenTable, turns, runners, sending, report}
+use Rattle.runs.specs.Driving.{Parts, driving, drive_breach, drive_answer, driven, driven_table, turns, runners, sending, report}
 
 -- a vote, or an open round with the turns that it was opened with
 pub data Stage (V : Type 0) : Type 0 where
@@ -77,9 +77,9 @@ module _ {V B : Type 0} (earlier : B → B → Bool) (s : Scheme B) where
     drives : {vote : Vote V} {hs : List (Head B)} {k : ℕ} → Calls from start k₀ (voting vote) hs k
         → (given : List (Head B)) → Handed vote.n hs given → (stops : ℕ) → (list : List ℕ) → (parts : Parts)
         → (answer : Result (HeardRound V) (Refused (Vote V))) → drive_answer answer ≡ driven earlier vote (driving s vote given stops parts) list
-        → (k' : ℕ) → Counts (driveBreach (driving s vote given stops parts) list)
+        → (k' : ℕ) → Counts (drive_breach (driving s vote given stops parts) list)
         (Calm s (turns (driving s vote given stops parts)) (runners (driving s vote given stops parts)) (sending (driving s vote given stops parts)) (report (driving s vote given stops parts))) k k'
-        → Calls from start k₀ (after_driving answer) (standing vote.n hs (drivenTable (driving s vote given stops parts) earlier list)) k'
+        → Calls from start k₀ (after_driving answer) (standing vote.n hs (driven_table (driving s vote given stops parts) earlier list)) k'
 
 -- a vote just begun: some heads, no round heard, and every head as it was enrolled
 pub record Begins {V B : Type 0} (vote : Vote V) (hs : List (Head B)) : Type 0 where

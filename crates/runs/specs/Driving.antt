@@ -72,22 +72,22 @@ module _ {B : Type 0} (d : Driving B) where
   report = record { words = words; alarms = alarms; stops = d.stops }
 
   -- the checks before the channel is asked
-  unfoldable pub earlyBreach : List ℕ → Option Breach
-  earlyBreach list =
+  unfoldable pub early_breach : List ℕ → Option Breach
+  early_breach list =
       or_else (short_table d.n d.table)
       (or_else (word_count d.n round list)
       (or_else (open_breach d.n round d.table turns)
       (at_lowest 9 round (lowest_idle d.stops runners))))
 
-  abbrev pub driveBreach : List ℕ → Option Breach
-  driveBreach list = or_else (earlyBreach list) (report_breach d.scheme runners sending round words alarms)
+  abbrev pub drive_breach : List ℕ → Option Breach
+  drive_breach list = or_else (early_breach list) (report_breach d.scheme runners sending round words alarms)
 
   -- the table after it, and the list: the channel's words, once it was asked
-  abbrev pub drivenTable : (B → B → Bool) → List ℕ → List (Head B)
-  drivenTable earlier list = changed (driveBreach list) (after earlier d.scheme d.n sending round d.table report) d.table
+  abbrev pub driven_table : (B → B → Bool) → List ℕ → List (Head B)
+  driven_table earlier list = changed (drive_breach list) (after earlier d.scheme d.n sending round d.table report) d.table
 
-  abbrev pub drivenList : List ℕ → List ℕ
-  drivenList list = changed (earlyBreach list) words list
+  abbrev pub driven_list : List ℕ → List ℕ
+  driven_list list = changed (early_breach list) words list
 
 abbrev pub driving : {V B : Type 0} → Scheme B → Vote V → List (Head B) → ℕ → Parts → Driving B
 driving s vote hs stops parts = record { scheme = s; n = vote.n; heard = vote.heard; table = hs; stops = stops; parts = parts }
@@ -99,6 +99,6 @@ drive_answer (Err e) = refused (vote_breach e.fault) (begun_as e.back)
 
 abbrev pub driven : {V B : Type 0} → (B → B → Bool) → Vote V → Driving B → List ℕ → Answer (Begun V × Figures) (Begun V)
 driven earlier vote d list =
-    unless (driveBreach d list)
+    unless (drive_breach d list)
     (record { n = vote.n; heard = vote.heard + 1; method = vote.method }, figures_of vote.n (vote.heard + 1) (sending d) (alarms d) (after earlier d.scheme vote.n (sending d) (vote.heard + 1) d.table (report d)))
     (begun_as vote)

@@ -18,7 +18,7 @@ use Rattle.votes.specs.Tables.{lowest_idle}
 use Rattle.votes.specs.Rounds.{stepped}
 use Rattle.votes.specs.Calls.{fresh, short_table, word_count, at_lowest, rounds_spent, none_runs}
 use Rattle.runs.specs.Calm.{Calm}
-use Rattle.runs.specs.Driving.{Parts, Driving, driving, round, runners, turns, sending, report, driveBreach}
+use Rattle.runs.specs.Driving.{Parts, Driving, driving, round, runners, turns, sending, report, drive_breach}
 use Rattle.runs.specs.Chains.{Stage, voting, rounds, Calls, Begins}
 
 -- ---- a head moves only by the rules of its vote: in each heard round it takes that round's step, by what it heard
@@ -81,8 +81,8 @@ pub record Promise (V B : Type 0) (earlier : B → B → Bool) (s : Scheme B) : 
       → calm_bound s ≤ k → (i : ℕ) → i < vote.n → (h : Head B) → slice_get hs i ≡ Some h → h.state ≢ Running
   -- over fitting parts a driving is refused exactly when 4, 5, 6, 8 or 9 applies
   pub carried_out : (vote : Vote V) (hs : List (Head B)) (stops : ℕ) (list : List ℕ) (p : Parts) → Fitting s p
-      → driveBreach (driving s vote hs stops p) list ≡ plain_breach (driving s vote hs stops p) list
+      → drive_breach (driving s vote hs stops p) list ≡ plain_breach (driving s vote hs stops p) list
   -- and in a vote whose calm rounds are those with one turn, its heard round is calm from the largest number on
   pub calm_driving : (vote : Vote V) (hs : List (Head B)) (stops : ℕ) (list : List ℕ) (p : Parts) → Fitting s p
-      → calmness s ≡ one_turn → driveBreach (driving s vote hs stops p) list ≡ None → largest p ≤ vote.heard + 1
+      → calmness s ≡ one_turn → drive_breach (driving s vote hs stops p) list ≡ None → largest p ≤ vote.heard + 1
       → Calm s (turns (driving s vote hs stops p)) (runners (driving s vote hs stops p)) (sending (driving s vote hs stops p)) (report (driving s vote hs stops p))

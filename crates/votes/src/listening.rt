@@ -10,14 +10,14 @@ use heads::head::{Ballots, Head};
 
 // Whether neither ballot comes before the other.
 fn same_ballot<B: Ballot>(a: B, b: B) -> bool
-    ensures { result ≡ alike earlier a b }
+    ensures { result ≡ alike B.earlier a b }
 {
     !a.before(&b) && !b.before(&a)
 }
 
 // Whether a sender has the ballot.
 fn holds<B: Ballot>(sends: bool, estimate: B, ballot: B) -> bool
-    ensures { result ≡ sends && alike earlier estimate ballot }
+    ensures { result ≡ sends && alike B.earlier estimate ballot }
 {
     sends && same_ballot(estimate, ballot)
 }
@@ -25,7 +25,7 @@ fn holds<B: Ballot>(sends: bool, estimate: B, ballot: B) -> bool
 // The senders that have the ballot.
 fn with_ballot<B: Ballot>(table: &[Head<B>], n: usize, senders: u64, ballot: B) -> u64
     requires { (n ≤ length table.now) × (n ≤ 64) }
-    ensures { result ≡ having earlier table.now n senders ballot }
+    ensures { result ≡ having B.earlier table.now n senders ballot }
 {
     let mut set = 0;
     for i in 0..n {
@@ -40,7 +40,7 @@ fn with_ballot<B: Ballot>(table: &[Head<B>], n: usize, senders: u64, ballot: B) 
 // The senders by whether they have the least ballot that was sent; none where no ballot was, or a sender has no record.
 pub(crate) fn leaders_of<B: Ballot>(table: &[Head<B>], n: usize, senders: u64) -> Option<Leaders<B>>
     requires { (n ≤ length table.now) × (n ≤ 64) }
-    ensures { IfSome result (λ l. Leads earlier table.now n senders l) }
+    ensures { IfSome result (λ l. Leads B.earlier table.now n senders l) }
 {
     if sets::next(senders, n).is_some() {
         return None;
@@ -74,8 +74,8 @@ pub(crate) fn heard_by<B: Ballot>(
     leaders: Option<Leaders<B>>,
     word: u64,
 ) -> Ballots<B>
-    requires { (n ≤ length table.now) × ((n ≤ 64) × (IfSome leaders (λ l. Leads earlier table.now n senders l))) }
-    ensures { result ≡ ballots_of earlier table.now word }
+    requires { (n ≤ length table.now) × ((n ≤ 64) × (IfSome leaders (λ l. Leads B.earlier table.now n senders l))) }
+    ensures { result ≡ ballots_of B.earlier table.now word }
 {
     if let Some(l) = leaders {
         if is_led(word, l.leaders, l.others) {
@@ -98,8 +98,8 @@ pub(crate) fn heard_again<B: Ballot>(
     last: u64,
     ballots: Ballots<B>,
 ) -> Ballots<B>
-    requires { (n ≤ length table.now) × ((n ≤ 64) × ((IfSome leaders (λ l. Leads earlier table.now n senders l)) × (ballots ≡ ballots_of earlier table.now last))) }
-    ensures { result ≡ ballots_of earlier table.now word }
+    requires { (n ≤ length table.now) × ((n ≤ 64) × ((IfSome leaders (λ l. Leads B.earlier table.now n senders l)) × (ballots ≡ ballots_of B.earlier table.now last))) }
+    ensures { result ≡ ballots_of B.earlier table.now word }
 {
     if word == last {
         ballots

@@ -19,7 +19,7 @@ impl From<BallotFault> for VoteFault {
 
 // The ballot of a code, for a vote.
 pub fn ballot_of<B: Coded>(code: u16) -> Result<B, VoteFault>
-    ensures { result ≡ ballot_from (from_code encoded decoded code) }
+    ensures { result ≡ ballot_from (from_code B.encoded B.decoded code) }
 {
     Ok(ballots::decode(code)?)
 }

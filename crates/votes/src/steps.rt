@@ -31,7 +31,7 @@ fn listen<B: Ballot, V: Method<B>>(
     stops: u64,
 )
     requires { (length words.now ≤ length table.old) × (length words.now ≤ 64) }
-    ensures { table.new ≡ listened earlier V.Method.scheme (length words.now) round table.old words.now stops }
+    ensures { table.new ≡ listened B.earlier V.Method.scheme (length words.now) round table.old words.now stops }
 {
     if !method.of_ballots(round) {
         return;
@@ -144,7 +144,7 @@ pub(crate) fn advance<B: Ballot, V: Method<B>>(
     stops: u64,
 )
     requires { (length words.now ≡ n) × ((n ≤ length table.old) × (n ≤ 64)) }
-    ensures { table.new ≡ after earlier V.Method.scheme n senders round table.old (record { words = words.entry.now; alarms = alarms; stops = stops }) }
+    ensures { table.new ≡ after B.earlier V.Method.scheme n senders round table.old (record { words = words.entry.now; alarms = alarms; stops = stops }) }
 {
     listen(method, senders, round, table, words, stops);
     step_all(method, senders, round, table, words, alarms, stops);

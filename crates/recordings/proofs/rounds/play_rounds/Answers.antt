@@ -2,7 +2,7 @@ use Rattle.std.proofs.Common.{◌≡◌, ℕ, suc, ◌+◌, ◌-◌, ◌*◌, Li
 use Rattle.std.proofs.lemmas.Result.{err_from_is_err_and, IfOk-from_err}
 use Rattle.votes.specs.declared.stages.Figures.{Figures}
 use Rattle.votes.specs.Calls.{begun_as}
-use Rattle.recordings.specs.Files.{record_breach, round_size, playedFrom}
+use Rattle.recordings.specs.Files.{record_breach, round_size, played_from}
 use Rattle.recordings.specs.Files.Progress.{going}
 use Rattle.recordings.proofs.Plays.{Turn, turn_heard, turn_refused, played_end}
 use Rattle.recordings.proofs.rounds.play_rounds.Goals as goal
@@ -26,7 +26,7 @@ loop-at-preserved g c =
     let one : h.vote.heard ≡ v.heard + 1 = t.more ∙ length-append figures (h.figures ∷ []) ∙ ap (λ (k : ℕ). k + 1) (sym inv.2) in
     let k : length bytes - v.heard ≡ suc (length bytes - h.vote.heard) = omega arith in
     let place : at + round_size n ≡ at + (26 + 8 * length c.play-round.new.words) = omega arith in
-    let start = playedFrom earlier s n bytes in (
+    let start = played_from earlier s n bytes in (
       t.same,
       width,
       t.more ∙ ap length (sym items),
@@ -45,7 +45,7 @@ returns-in-Err g c =
     let v = c.loop-at.vote in
     let inv = c.loop-at.invariant in
     let k : length bytes - v.heard ≡ suc (length bytes - suc v.heard) = omega arith in
-    inv.5 ∙ ap (λ (m : ℕ). playedFrom g.B.Ballot.earlier g.V.Method.scheme c.args.start.n bytes m c.loop-at.at (going (vec_items c.loop-at.rounds) c.loop-at.table)) k
+    inv.5 ∙ ap (λ (m : ℕ). played_from g.B.Ballot.earlier g.V.Method.scheme c.args.start.n bytes m c.loop-at.at (going (vec_items c.loop-at.rounds) c.loop-at.table)) k
     ∙ turn_refused g.B.Ballot.earlier g.V.Method.scheme v bytes c.loop-at.at (vec_items c.loop-at.rounds) c.loop-at.table inv.2 c.loop-at-test.true
     (record_breach c.in-Err.fault) c.in-Err.ensures.answer c.args.start.n inv.0 (length bytes - suc v.heard)
 

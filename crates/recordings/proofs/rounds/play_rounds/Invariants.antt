@@ -1,5 +1,5 @@
 use Rattle.std.proofs.Common.{◌≡◌, ◌-◌, ◌≤◌, [], length, vec_items}
-use Rattle.recordings.specs.Files.{playedFrom}
+use Rattle.recordings.specs.Files.{played_from}
 use Rattle.recordings.specs.Files.Progress.{going}
 use Rattle.recordings.proofs.rounds.play_rounds.Given as goal
 
@@ -7,8 +7,8 @@ abbrev pub invariant-loop-at : goal.invariant-loop-at
 invariant-loop-at g l =
     (l.vote.n ≡ l.initial.vote.n) × (length l.words ≡ l.initial.vote.n) × (l.vote.heard ≡ length (vec_items l.rounds))
     × (l.vote.heard ≤ l.at) × (l.at ≤ length l.bytes)
-    × (playedFrom g.B.Ballot.earlier g.V.Method.scheme l.initial.vote.n l.bytes (length l.bytes) l.from (going [] l.initial.table)
-    ≡ playedFrom g.B.Ballot.earlier g.V.Method.scheme l.initial.vote.n l.bytes (length l.bytes - l.vote.heard) l.at (going (vec_items l.rounds) l.table))
+    × (played_from g.B.Ballot.earlier g.V.Method.scheme l.initial.vote.n l.bytes (length l.bytes) l.from (going [] l.initial.table)
+    ≡ played_from g.B.Ballot.earlier g.V.Method.scheme l.initial.vote.n l.bytes (length l.bytes - l.vote.heard) l.at (going (vec_items l.rounds) l.table))
 
 abbrev pub decreases-loop-at : goal.decreases-loop-at
 decreases-loop-at g l = length l.bytes - l.at

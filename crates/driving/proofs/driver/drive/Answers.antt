@@ -39,7 +39,7 @@ returns-in-Ok-hear g c =
     (g.C.Channel.meaning c.args.channel.now) (g.D.Detector.meaning c.args.detector.now) (g.M.Manager.meaning c.args.manager.now) c.args.list.now c.args.manager.now
     c.in-Ok.running (sym c.running.ensures ∙ c.in-Ok.is) c.rounds-round.result c.rounds-round.ensures
     (c.if-list-heads.false ∙ c.heads.ensures) c.turns-turns.result c.turns-turns.ensures c.open.result c.open.ensures
-    c.in-ok-open.open c.in-ok-open.was (sym c.lowest-idle.ensures ∙ c.in-default.is)
+    c.in-ok-open.open c.in-ok-open.was (sym c.lowest-idle.ensures ∙ c.in_default.is)
     c.senders-senders.result c.senders-senders.ensures c.put-words.new.list c.put-words.ensures c.alarms-of-alarms.result c.alarms-of-alarms.ensures
     c.hear.result c.hear.ensures.answer c.hear.new.table c.hear.ensures.table
     c.in-Ok-hear.heard c.in-Ok-hear.is c.size.result c.size.ensures.value c.tell.new.self c.tell.ensures (g.met.M.Manager.told c.args.manager.now _ _ _ c.tell.new.self c.tell.ensures)
@@ -50,7 +50,7 @@ returns-in-Err-hear g c =
     (g.C.Channel.meaning c.args.channel.now) (g.D.Detector.meaning c.args.detector.now) (g.M.Manager.meaning c.args.manager.now) c.args.list.now c.args.manager.now
     c.in-Ok.running (sym c.running.ensures ∙ c.in-Ok.is) c.rounds-round.result c.rounds-round.ensures
     (c.if-list-heads.false ∙ c.heads.ensures) c.turns-turns.result c.turns-turns.ensures c.open.result c.open.ensures
-    c.in-ok-open.open c.in-ok-open.was (sym c.lowest-idle.ensures ∙ c.in-default.is)
+    c.in-ok-open.open c.in-ok-open.was (sym c.lowest-idle.ensures ∙ c.in_default.is)
     c.senders-senders.result c.senders-senders.ensures c.put-words.new.list c.put-words.ensures c.alarms-of-alarms.result c.alarms-of-alarms.ensures
     c.hear.result c.hear.ensures.answer c.hear.new.table c.hear.ensures.table
     c.in-Err-hear.refused c.in-Err-hear.is c.withdraw-in-Err-hear.result c.withdraw-in-Err-hear.ensures

@@ -39,13 +39,13 @@ returns-then-i-heads g c =
       differ = subst (λ (s : Ballots g.row.B.Denot). Decides s.differ (TwoHeard hs word 64)) (sym value) (differ_decides earlier hs word total 64);
     }
 
-pub returns-in-default : goal.returns-in-default
-returns-in-default g c =
+pub returns-in_default : goal.returns-in_default
+returns-in_default g c =
     let earlier = g.B.Ballot.earlier in
     let hs = c.args.heads.now in
     let word = c.args.word in
     let total = g.met.B.Ballot.total in
-    let value = c.loop-i.invariant.1 ∙ walk_all earlier hs word c.loop-i.from c.loop-i.invariant.0 (sym c.in-default.ensures) in
+    let value = c.loop-i.invariant.1 ∙ walk_all earlier hs word c.loop-i.from c.loop-i.invariant.0 (sym c.in_default.ensures) in
     record {
       value = value;
       least = subst (λ (s : Ballots g.row.B.Denot). IsLeast earlier hs word 64 s.least) (sym value) (right earlier hs word total 64).least;

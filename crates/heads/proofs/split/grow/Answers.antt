@@ -8,7 +8,7 @@ narrow x w h =
     let e : 1 * 2 ^ w % 4294967296 ≡ 2 ^ w = one_shl w 32 (omega arith) in
     rw e (lt_of_lt_of_le (mod_below x (2 ^ w) (pow_pos w)) (pow_mono h))
 
-pub overflow-cast-bits-3 : goal.overflow-cast-bits-3
-overflow-cast-bits-3 g c =
+pub overflow_cast-bits-3 : goal.overflow_cast-bits-3
+overflow_cast-bits-3 g c =
     let coding = g.met.B.Coded.coding in
     record { fits = narrow _ c.bits.result (omega (arith, coding.most, c.bits.ensures.value)) }

@@ -14,7 +14,7 @@ returns g c =
     let senders = c.size.ensures.value in
     let alarms = c.size-2.ensures.value in
     let decided : c.size-3.result ≡ count n (stands Decided hs n) =
-    c.size-3.ensures.value ∙ ap (λ (w : ℕ). count 64 (bit w)) c.in-state.ensures ∙ count_set n (stands Decided hs n) c.requires.1 in
+    c.size-3.ensures.value ∙ ap (λ (w : ℕ). count 64 (bit w)) c.in_state.ensures ∙ count_set n (stands Decided hs n) c.requires.1 in
     let running : c.size-4.result ≡ count n (stands Running hs n) =
-    c.size-4.ensures.value ∙ ap (λ (w : ℕ). count 64 (bit w)) c.in-state-2.ensures ∙ count_set n (stands Running hs n) c.requires.1 in
+    c.size-4.ensures.value ∙ ap (λ (w : ℕ). count 64 (bit w)) c.in_state-2.ensures ∙ count_set n (stands Running hs n) c.requires.1 in
     cc

@@ -37,7 +37,7 @@ returns-in-Some g c =
     let early = le-ltb _ _ c.if-round-gt10000.false in
     let same = eq-eqb _ _ c.if-words-n.false in
     let found : lowest_idle c.args.stops (running c.args.table.now c.args.n) ≡ Some c.in-Some.head =
-    ap (lowest_idle c.args.stops) (sym c.in-state-running.ensures) ∙ sym c.lowest-idle.ensures ∙ c.in-Some.is in
+    ap (lowest_idle c.args.stops) (sym c.in_state-running.ensures) ∙ sym c.lowest_idle.ensures ∙ c.in-Some.is in
     record { accepted = tt; value = rw (whole, early, same, found) }
 
 pub returns : goal.returns
@@ -49,7 +49,7 @@ returns g c =
     let early = le-ltb _ _ c.if-round-gt10000.false in
     let same = eq-eqb _ _ c.if-words-n.false in
     let none : lowest_idle c.args.stops runners ≡ None =
-    ap (lowest_idle c.args.stops) (sym c.in-state-running.ensures) ∙ sym c.lowest-idle.ensures ∙ c.in_default.is in
-    let told : fault_breach c.report-breach.result ≡ report_breach s runners c.args.senders c.args.round c.args.words.now c.args.alarms =
-    c.report-breach.ensures ∙ ap (λ (w : ℕ). report_breach s w c.args.senders c.args.round c.args.words.now c.args.alarms) c.in-state-running.ensures in
+    ap (lowest_idle c.args.stops) (sym c.in_state-running.ensures) ∙ sym c.lowest_idle.ensures ∙ c.in_default.is in
+    let told : fault_breach c.report_breach.result ≡ report_breach s runners c.args.senders c.args.round c.args.words.now c.args.alarms =
+    c.report_breach.ensures ∙ ap (λ (w : ℕ). report_breach s w c.args.senders c.args.round c.args.words.now c.args.alarms) c.in_state-running.ensures in
     record { accepted = either _ c.if-round-gt10000.false c.if-table-n.false c.if-words-n.false; value = rw (whole, early, same, none) told }

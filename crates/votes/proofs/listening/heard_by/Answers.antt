@@ -6,15 +6,15 @@ use Rattle.votes.specs.Leaders.{Leads}
 use Rattle.votes.proofs.Leading.{none_in, some_in, led_ballots}
 use Rattle.votes.proofs.listening.heard_by.Goals as goal
 
-pub returns-then-is-led : goal.returns-then-is-led
-returns-then-is-led g c =
+pub returns-then-is_led : goal.returns-then-is_led
+returns-then-is_led g c =
     let earlier = g.B.Ballot.earlier in
     let hs = c.args.table.now in
     let l = c.in-Some.l in
     let word = c.args.word in
     let both : ℕ → Bool = λ i. bit word i && bit l.others i in
     let leads : Leads earlier hs c.args.n c.args.senders l = MatchOption-at_some (Unit {0}) (λ x. Leads earlier hs c.args.n c.args.senders x) l c.in-Some.is c.requires.1.1 in
-    led_ballots earlier g.met.B.Ballot.total hs c.args.n c.args.senders c.requires.0 l leads word (c.is-led.ensures c.if-is-led.true)
+    led_ballots earlier g.met.B.Ballot.total hs c.args.n c.args.senders c.requires.0 l leads word (c.is_led.ensures c.if-is_led.true)
     (not (eqb c.shared.result 0))
     (λ e. none_in both (sym c.shared.ensures ∙ eqb-true _ _ (not-false _ e)))
     (λ e. some_in both (λ z. eqb-false _ _ (not-true _ e) (c.shared.ensures ∙ z)))

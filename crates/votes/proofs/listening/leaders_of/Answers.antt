@@ -9,10 +9,10 @@ pub returns-in-Some : goal.returns-in-Some
 returns-in-Some g c =
     let senders = c.args.senders in
     let n = c.args.n in
-    let none = sym c.next.ensures ∙ none_is c.next.result (sym c.if-is-some.ensures) in
+    let none = sym c.next.ensures ∙ none_is c.next.result (sym c.if-is_some.ensures) in
     record {
-      least = subst (IsLeast g.B.Ballot.earlier c.args.table.now senders 64) c.in-Some.is c.ballots-heard.ensures.least;
-      leaders = c.with-ballot-leaders.ensures;
+      least = subst (IsLeast g.B.Ballot.earlier c.args.table.now senders 64) c.in-Some.is c.ballots_heard.ensures.least;
+      leaders = c.with_ballot-leaders.ensures;
       others = c.without-others.ensures;
       enrolled = λ i h e. ⊎_elim (λ l. l) (λ l. absurd (true≢false (sym e ∙ lowest_none (bit senders) n (64 - n) none i l (omega arith)))) (cases_lt i n);
     }

@@ -11,11 +11,11 @@ use Rattle.votes.proofs.Rounds.{ballots_same, no_one, rewrite_estimate, note_at_
 use Rattle.votes.proofs.Leading.{led_same}
 use Rattle.votes.proofs.steps.listen.Goals as goal
 
-pub offset-bounds-table-i : goal.offset-bounds-table-i
-offset-bounds-table-i g c = scaled_Fits c.loop-i.i (length c.args.table.now) _ (omega arith) (search rules)
+pub offset_bounds-table-i : goal.offset_bounds-table-i
+offset_bounds-table-i g c = scaled_Fits c.loop-i.i (length c.args.table.now) _ (omega arith) (search rules)
 
-pub offset-bounds-table-i-in-loop-i : goal.offset-bounds-table-i-in-loop-i
-offset-bounds-table-i-in-loop-i g c = scaled_Fits c.loop-i.i (length c.args.table.now) _ (omega arith) (search rules)
+pub offset_bounds-table-i-in-loop-i : goal.offset_bounds-table-i-in-loop-i
+offset_bounds-table-i-in-loop-i g c = scaled_Fits c.loop-i.i (length c.args.table.now) _ (omega arith) (search rules)
 
 module _ {B : Type 0} (earlier : B → B → Bool) (old ts : List (Head B)) (words : List ℕ) (stops i : ℕ) (inv : ts ≡ rewrite (note_at earlier old words stops) i old) where
   -- the estimates, and so the ballots heard, are those of the table at the start
@@ -28,13 +28,13 @@ module _ {B : Type 0} (earlier : B → B → Bool) (old ts : List (Head B)) (wor
 pub loop-i-init : goal.loop-i-init
 loop-i-init g c = (sym (no_one g.B.Ballot.earlier c.args.table.now 64), sym (rewrite_none _ _))
 
-pub heard-again-ballots-requires : goal.heard-again-ballots-requires
-heard-again-ballots-requires g c =
+pub heard_again-ballots-requires : goal.heard_again-ballots-requires
+heard_again-ballots-requires g c =
     let earlier = g.B.Ballot.earlier in
     let old = c.args.table.now in
     let ts = c.loop-i.table in
     let same = estimates earlier old ts c.args.words.now c.args.stops c.loop-i.i c.loop-i.invariant.1 in
-    let leads = led_same earlier old ts (λ k. sym (same k)) (length c.args.words.now) c.args.senders c.leaders-of-leaders.result c.leaders-of-leaders.ensures in
+    let leads = led_same earlier old ts (λ k. sym (same k)) (length c.args.words.now) c.args.senders c.leaders_of-leaders.result c.leaders_of-leaders.ensures in
     (omega arith, (c.requires.1, (leads, c.loop-i.invariant.0 ∙ sym (kept earlier old ts c.args.words.now c.args.stops c.loop-i.i c.loop-i.invariant.1 c.loop-i.word))))
 
 pub loop-i-preserved : goal.loop-i-preserved
@@ -46,8 +46,8 @@ loop-i-preserved g c =
     let h = c.index-table-i.result in
     let word = get_or words i 0 in
     let f : ℕ → Head g.row.B.Denot → Head g.row.B.Denot = note_at earlier old words c.args.stops in
-    let heard : c.heard-again-ballots.result ≡ ballots_of earlier old word =
-    c.heard-again-ballots.ensures ∙ kept earlier old c.loop-i.table words c.args.stops i c.loop-i.invariant.1 word in
+    let heard : c.heard_again-ballots.result ≡ ballots_of earlier old word =
+    c.heard_again-ballots.ensures ∙ kept earlier old c.loop-i.table words c.args.stops i c.loop-i.invariant.1 word in
     let told : c.note.result ≡ f i h =
     c.note.ensures ∙ ap₂ (λ (t : Bool) (b : Ballots g.row.B.Denot). noted t b h.state h) c.has.ensures heard in
     (heard, ap (set c.loop-i.table i) told ∙ rewrite_more f old c.loop-i.table i h (omega arith) c.loop-i.invariant.1 c.index-table-i.is)
@@ -57,4 +57,4 @@ returns g c =
     let old = c.args.table.now in
     let end : c.loop-i.i ≡ length c.args.words.now = omega arith in
     c.loop-i.invariant.1 ∙ ap (λ (k : ℕ). rewrite (note_at g.B.Ballot.earlier old c.args.words.now c.args.stops) k old) end
-    ∙ sym (cond-true _ _ _ (sym c.if-not-of-ballots.ensures))
+    ∙ sym (cond-true _ _ _ (sym c.if-not-of_ballots.ensures))

@@ -6,11 +6,11 @@ use Rattle.votes.specs.Passes.{recalls, take_at}
 use Rattle.votes.proofs.Rewrites.{rewrite_none, rewrite_more}
 use Rattle.votes.proofs.steps.step_all.Goals as goal
 
-pub offset-bounds-table-i : goal.offset-bounds-table-i
-offset-bounds-table-i g c = let h : c.loop-i.i < length c.args.table.now = omega arith in search rules
+pub offset_bounds-table-i : goal.offset_bounds-table-i
+offset_bounds-table-i g c = let h : c.loop-i.i < length c.args.table.now = omega arith in search rules
 
-pub offset-bounds-table-i-in-loop-i : goal.offset-bounds-table-i-in-loop-i
-offset-bounds-table-i-in-loop-i g c = let h : c.loop-i.i < length c.args.table.now = omega arith in search rules
+pub offset_bounds-table-i-in-loop-i : goal.offset_bounds-table-i-in-loop-i
+offset_bounds-table-i-in-loop-i g c = let h : c.loop-i.i < length c.args.table.now = omega arith in search rules
 
 pub loop-i-init : goal.loop-i-init
 loop-i-init g c = sym (rewrite_none _ _)

@@ -4,7 +4,7 @@ use Rattle.sets.proofs.Words.{word_none, word_with, word_without}
 use Rattle.votes.specs.Tables.{stands, in_state}
 use Rattle.votes.proofs.Records.{stands_read}
 use Rattle.votes.proofs.tables.in_state.Goals as goal
-use Rattle.votes.proofs.tables.in_state.Goals.{then_same, else_same}
+use Rattle.votes.proofs.tables.in_state.Goals.{then-same, else-same}
 
 pub loop-i-init : goal.loop-i-init
 loop-i-init g c = sym (word_none _)
@@ -16,8 +16,8 @@ loop-i-preserved g c =
     let p = stands c.args.state hs c.args.n in
     let is = stands_read c.args.state hs c.args.n i c.index-table-i.result (omega arith) (omega arith) c.index-table-i.is in
     elim c.if-same.branch [
-      | then_same w ↦ w.set-is ∙ word_with i p c.loop-i.set (omega arith) (is ∙ sym w.if-same.ensures) c.loop-i.invariant
-      | else_same w ↦ w.set-is ∙ word_without i p c.loop-i.set (is ∙ sym w.if-same.ensures) c.loop-i.invariant
+      | then-same w ↦ w.set-is ∙ word_with i p c.loop-i.set (omega arith) (is ∙ sym w.if-same.ensures) c.loop-i.invariant
+      | else-same w ↦ w.set-is ∙ word_without i p c.loop-i.set (is ∙ sym w.if-same.ensures) c.loop-i.invariant
     ]
 
 pub returns : goal.returns

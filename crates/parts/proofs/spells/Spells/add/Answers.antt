@@ -16,7 +16,7 @@ fit_more list n x l e f =
     let new : spell_at (set list n x) n ≡ x = rw get_or-set_same refl in
     rw add-one (and_from (fits (spell_at (set list n x) n)) (all_fit (set list n x) n) (ap fits new ∙ f) (fit_before list n n x (omega arith) ∙ e))
 
-pub invariant-of-self : goal.invariant-of-self
-invariant-of-self c =
+pub invariant_of-self : goal.invariant_of-self
+invariant_of-self c =
     let s = c.args.self.now in
-    (omega arith, (fit_more s.list s.count c.args.spell (search rules) s.fit (sym c.fits.ensures ∙ c.if-not-fits.false), tt))
+    record { few = omega arith; fit = fit_more s.list s.count c.args.spell (search rules) s.fit (sym c.fits.ensures ∙ c.if-not-fits.false) }

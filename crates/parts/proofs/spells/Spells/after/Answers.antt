@@ -5,8 +5,8 @@ use Rattle.parts.proofs.spells.Spells.after.Goals as goal
 pub loop-i-init : goal.loop-i-init
 loop-i-init c = sym (past_none c.args.self.now.list)
 
-pub overflow-add-self : goal.overflow-add-self
-overflow-add-self c =
+pub overflow_add-self : goal.overflow_add-self
+overflow_add-self c =
     let s = c.args.self.now in
     let last = last_most s.list s.count c.loop-i.i s.fit (omega arith) in
     search rules

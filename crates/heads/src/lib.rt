@@ -3,6 +3,7 @@
 pub mod alarms;
 pub mod ballots_heard;
 pub mod bitwise;
+pub mod fitted;
 pub mod head;
 pub mod method;
 pub mod short;

@@ -16,14 +16,14 @@ returns-then-list-heads g c =
     c.in-Ok.running (sym c.running.ensures ∙ c.in-Ok.is) c.rounds-round.result c.rounds-round.ensures
     c.heads.result c.heads.ensures c.if-list-heads.true
 
-pub returns-in-err-open : goal.returns-in-err-open
-returns-in-err-open g c =
-    let p = err_from_is_err_and c.from-residual.result c.from-residual.ensures.1 in
+pub returns-in_err-open : goal.returns-in_err-open
+returns-in_err-open g c =
+    let p = err_from_is_err_and c.from_residual.result c.from_residual.ensures.1 in
     open_ends g.B.Ballot.earlier g.M.Manager.tells g.M.Manager.meaning g.V.Method.scheme c.args.vote c.args.table.now c.args.stops
     (g.C.Channel.meaning c.args.channel.now) (g.D.Detector.meaning c.args.detector.now) (g.M.Manager.meaning c.args.manager.now) c.args.list.now c.args.manager.now
     c.in-Ok.running (sym c.running.ensures ∙ c.in-Ok.is) c.rounds-round.result c.rounds-round.ensures
     (c.if-list-heads.false ∙ c.heads.ensures) c.turns-turns.result c.turns-turns.ensures c.open.result c.open.ensures
-    _ p.0 c.in-err-open.was p.2 c.from-residual.result p.1
+    _ p.0 c.in_err-open.was p.2 c.from_residual.result p.1
 
 pub returns-in-Some : goal.returns-in-Some
 returns-in-Some g c =
@@ -31,7 +31,7 @@ returns-in-Some g c =
     (g.C.Channel.meaning c.args.channel.now) (g.D.Detector.meaning c.args.detector.now) (g.M.Manager.meaning c.args.manager.now) c.args.list.now c.args.manager.now
     c.in-Ok.running (sym c.running.ensures ∙ c.in-Ok.is) c.rounds-round.result c.rounds-round.ensures
     (c.if-list-heads.false ∙ c.heads.ensures) c.turns-turns.result c.turns-turns.ensures c.open.result c.open.ensures
-    c.in-ok-open.open c.in-ok-open.was c.in-Some.head (sym c.lowest-idle.ensures ∙ c.in-Some.is) c.withdraw.result c.withdraw.ensures
+    c.in_ok-open.open c.in_ok-open.was c.in-Some.head (sym c.lowest_idle.ensures ∙ c.in-Some.is) c.withdraw.result c.withdraw.ensures
 
 pub returns-in-Ok-hear : goal.returns-in-Ok-hear
 returns-in-Ok-hear g c =
@@ -39,8 +39,8 @@ returns-in-Ok-hear g c =
     (g.C.Channel.meaning c.args.channel.now) (g.D.Detector.meaning c.args.detector.now) (g.M.Manager.meaning c.args.manager.now) c.args.list.now c.args.manager.now
     c.in-Ok.running (sym c.running.ensures ∙ c.in-Ok.is) c.rounds-round.result c.rounds-round.ensures
     (c.if-list-heads.false ∙ c.heads.ensures) c.turns-turns.result c.turns-turns.ensures c.open.result c.open.ensures
-    c.in-ok-open.open c.in-ok-open.was (sym c.lowest-idle.ensures ∙ c.in_default.is)
-    c.senders-senders.result c.senders-senders.ensures c.put-words.new.list c.put-words.ensures c.alarms-of-alarms.result c.alarms-of-alarms.ensures
+    c.in_ok-open.open c.in_ok-open.was (sym c.lowest_idle.ensures ∙ c.in_default.is)
+    c.senders-senders.result c.senders-senders.ensures c.put_words.new.list c.put_words.ensures c.alarms_of-alarms.result c.alarms_of-alarms.ensures
     c.hear.result c.hear.ensures.answer c.hear.new.table c.hear.ensures.table
     c.in-Ok-hear.heard c.in-Ok-hear.is c.size.result c.size.ensures.value c.tell.new.self c.tell.ensures (g.met.M.Manager.told c.args.manager.now _ _ _ c.tell.new.self c.tell.ensures)
 
@@ -50,7 +50,7 @@ returns-in-Err-hear g c =
     (g.C.Channel.meaning c.args.channel.now) (g.D.Detector.meaning c.args.detector.now) (g.M.Manager.meaning c.args.manager.now) c.args.list.now c.args.manager.now
     c.in-Ok.running (sym c.running.ensures ∙ c.in-Ok.is) c.rounds-round.result c.rounds-round.ensures
     (c.if-list-heads.false ∙ c.heads.ensures) c.turns-turns.result c.turns-turns.ensures c.open.result c.open.ensures
-    c.in-ok-open.open c.in-ok-open.was (sym c.lowest-idle.ensures ∙ c.in_default.is)
-    c.senders-senders.result c.senders-senders.ensures c.put-words.new.list c.put-words.ensures c.alarms-of-alarms.result c.alarms-of-alarms.ensures
+    c.in_ok-open.open c.in_ok-open.was (sym c.lowest_idle.ensures ∙ c.in_default.is)
+    c.senders-senders.result c.senders-senders.ensures c.put_words.new.list c.put_words.ensures c.alarms_of-alarms.result c.alarms_of-alarms.ensures
     c.hear.result c.hear.ensures.answer c.hear.new.table c.hear.ensures.table
     c.in-Err-hear.refused c.in-Err-hear.is c.withdraw-in-Err-hear.result c.withdraw-in-Err-hear.ensures

@@ -10,7 +10,7 @@ loop-i-init g c = λ k l. absurd (omega arith)
 pub loop-i-preserved : goal.loop-i-preserved
 loop-i-preserved g c =
     let f = word_for (g.C.Channel.meaning c.args.channel.now) c.args.round c.args.running c.args.senders in
-    simp c.word-for.ensures (fill_by_more f c.loop-i.list c.loop-i.i 0 (omega arith) c.loop-i.invariant)
+    simp c.word_for.ensures (fill_by_more f c.loop-i.list c.loop-i.i 0 (omega arith) c.loop-i.invariant)
 
 pub returns : goal.returns
 returns g c =

@@ -15,10 +15,10 @@ returns c =
     let t3 : List ℕ = t2 ▹ or_dash r.round in
     let t4 : List ℕ = t3 ▹ or_dash r.head in
     let t5 : List ℕ = t4 ▹ or_dash r.other in
-    let e1 = more w (70 ∷ []) (32 ∷ decimal r.number) c.in-ok-push.ensures.items c.in-ok-push-figure.ensures in
-    let e2 = more w t1 (32 ∷ decimal byte) e1 c.in-ok-push-figure-2.ensures in
-    let e3 = more w t2 (32 ∷ or_dash r.round) e2 c.in-ok-push-value.ensures in
-    let e4 = more w t3 (32 ∷ or_dash r.head) e3 c.in-ok-push-value-2.ensures in
-    let e5 = more w t4 (32 ∷ or_dash r.other) e4 c.in-ok-push-value-3.ensures in
-    more w t5 (10 ∷ []) e5 c.in-ok-push-2.ensures.items
+    let e1 = more w (70 ∷ []) (32 ∷ decimal r.number) c.in_ok-push.ensures.items c.in_ok-push_figure.ensures in
+    let e2 = more w t1 (32 ∷ decimal byte) e1 c.in_ok-push_figure-2.ensures in
+    let e3 = more w t2 (32 ∷ or_dash r.round) e2 c.in_ok-push_value.ensures in
+    let e4 = more w t3 (32 ∷ or_dash r.head) e3 c.in_ok-push_value-2.ensures in
+    let e5 = more w t4 (32 ∷ or_dash r.other) e4 c.in_ok-push_value-3.ensures in
+    more w t5 (10 ∷ []) e5 c.in_ok-push-2.ensures.items
     ∙ ap (λ b. w ++ fault_line (record { byte = byte; breach = b })) c.refusal-refusal.ensures

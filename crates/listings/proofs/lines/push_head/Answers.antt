@@ -10,6 +10,6 @@ returns c =
     let text = outcome_text c.args.outcome in
     let t1 : List ℕ = (72 ∷ []) ▹ decimal c.args.head in
     let t2 : List ℕ = t1 ▹ text in
-    let e1 = more w (72 ∷ []) (32 ∷ decimal c.args.head) c.in-ok-push.ensures.items c.in-ok-push-figure.ensures in
-    let e2 = more w t1 (32 ∷ text) e1 c.in-ok-push-outcome.ensures in
-    more w t2 (10 ∷ []) e2 c.in-ok-push-2.ensures.items
+    let e1 = more w (72 ∷ []) (32 ∷ decimal c.args.head) c.in_ok-push.ensures.items c.in_ok-push_figure.ensures in
+    let e2 = more w t1 (32 ∷ text) e1 c.in_ok-push_outcome.ensures in
+    more w t2 (10 ∷ []) e2 c.in_ok-push-2.ensures.items

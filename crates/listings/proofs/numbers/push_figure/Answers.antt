@@ -3,6 +3,6 @@ use Rattle.listings.proofs.numbers.push_figure.Goals as goal
 
 pub returns : goal.returns
 returns c =
-    let blank = c.in-ok-push.ensures.items in
-    let digits = c.in-ok-push-number.ensures in
+    let blank = c.in_ok-push.ensures.items in
+    let digits = c.in_ok-push_number.ensures in
     rw (digits, blank) (simp append_assoc)

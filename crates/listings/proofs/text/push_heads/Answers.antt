@@ -10,7 +10,7 @@ loop-i-init c = heads_none c.args.heads.now _
 pub loop-i-preserved : goal.loop-i-preserved
 loop-i-preserved c =
     let w = vec_items c.args.out.now in
-    let told = c.in-ok-push-head.ensures in
+    let told = c.in_ok-push_head.ensures in
     more w (head_lines 0 (take c.loop-i.i c.args.heads.now)) _ c.loop-i.invariant told
     ∙ ap (λ x. w ++ x) (sym (heads_more c.args.heads.now c.loop-i.i _ (omega arith)))
 

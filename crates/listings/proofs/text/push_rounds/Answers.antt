@@ -10,7 +10,7 @@ loop-i-init c = rounds_none c.args.rounds.now _
 pub loop-i-preserved : goal.loop-i-preserved
 loop-i-preserved c =
     let w = vec_items c.args.out.now in
-    let told = c.in-ok-push-round.ensures in
+    let told = c.in_ok-push_round.ensures in
     more w (round_lines (take c.loop-i.i c.args.rounds.now)) _ c.loop-i.invariant told
     ∙ ap (λ x. w ++ x) (sym (rounds_more c.args.rounds.now c.loop-i.i _ (omega arith)))
 

@@ -4,4 +4,4 @@ use Rattle.recordings.proofs.bytes.read_u16.Goals as goal
 
 pub returns : goal.returns
 unfolding number
-returns c = rw (c.from-le-bytes.ensures, add-zero) (omega arith)
+returns c = rw (c.from_le_bytes.ensures, add-zero) (omega arith)

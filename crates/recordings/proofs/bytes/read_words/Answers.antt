@@ -8,7 +8,7 @@ pub loop-i-preserved : goal.loop-i-preserved
 loop-i-preserved c =
     let f : ℕ → ℕ = λ k. number 8 c.args.bytes.now (c.args.at + 8 * k) in
     let i = c.loop-i.i in
-    λ k h. ap (λ (w : ℕ). get_or (set c.loop-i.words i w) k 0) c.read-u64.ensures ∙ fill_by_more f c.loop-i.words i 0 (omega arith) c.loop-i.invariant k h
+    λ k h. ap (λ (w : ℕ). get_or (set c.loop-i.words i w) k 0) c.read_u64.ensures ∙ fill_by_more f c.loop-i.words i 0 (omega arith) c.loop-i.invariant k h
 
 pub returns : goal.returns
 unfolding words_at

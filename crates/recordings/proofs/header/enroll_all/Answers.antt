@@ -23,39 +23,39 @@ loop-i-preserved g c =
     let i = c.loop-i.i in
     let roll = c.loop-i.roll in
     let ts = c.loop-i.table in
-    let code : c.read-u16.result ≡ code_at bytes i = c.read-u16.ensures in
-    let read = decoded_ok (eqb (encoded (decoded c.read-u16.result)) c.read-u16.result) (decoded c.read-u16.result) c.in-ok-ballot.ballot c.in-ok-ballot.ensures in
+    let code : c.read_u16.result ≡ code_at bytes i = c.read_u16.ensures in
+    let read = decoded_ok (eqb (encoded (decoded c.read_u16.result)) c.read_u16.result) (decoded c.read_u16.result) c.in_ok-ballot.ballot c.in_ok-ballot.ensures in
     let fine : eqb (encoded (decoded (code_at bytes i))) (code_at bytes i) ≡ true = ap (λ (k : ℕ). eqb (encoded (decoded k)) k) (sym code) ∙ read.0 in
     let h : roll.n < 64 = omega arith in
     let room : roll.n < length ts = omega arith in
     let f : ℕ → Head g.row.B.Denot = λ j. fresh (decoded (code_at bytes j)) in
     let write : c.enroll.new.table ≡ set ts i (f i) =
-    c.in-ok-roll.ensures.table ∙ enrolled_set roll ts h room c.in-ok-ballot.ballot
+    c.in_ok-roll.ensures.table ∙ enrolled_set roll ts h room c.in_ok-ballot.ballot
     ∙ ap₂ (λ (k : ℕ) b. set ts k (fresh b)) c.loop-i.invariant.0 (read.1 ∙ ap decoded code) in (
-      same_done _ _ _ c.in-ok-roll.ensures.answer (enrolled_done roll ts h room) ∙ ap (λ (k : ℕ). k + 1) c.loop-i.invariant.0,
+      same_done _ _ _ c.in_ok-roll.ensures.answer (enrolled_done roll ts h room) ∙ ap (λ (k : ℕ). k + 1) c.loop-i.invariant.0,
       left_more _ (strange encoded decoded bytes) c.args.n i (omega arith) (when_false _ _ (ap not fine)) c.loop-i.invariant.1,
       write ∙ written_more f c.args.table.now ts i (omega arith) (omega arith) c.loop-i.invariant.2,
     )
 
-pub returns-in-err-ballot : goal.returns-in-err-ballot
-returns-in-err-ballot g c =
+pub returns-in_err-ballot : goal.returns-in_err-ballot
+returns-in_err-ballot g c =
     let encoded = g.B.Coded.encoded in
     let decoded = g.B.Coded.decoded in
     let bytes = c.args.bytes.now in
     let i = c.loop-i.i in
-    let code : c.read-u16.result ≡ code_at bytes i = c.read-u16.ensures in
-    let fault = c.in-err-ballot.field-0.0 in
-    let read = decoded_err (eqb (encoded (decoded c.read-u16.result)) c.read-u16.result) (decoded c.read-u16.result) fault c.in-err-ballot.ensures in
+    let code : c.read_u16.result ≡ code_at bytes i = c.read_u16.ensures in
+    let fault = c.in_err-ballot.field-0.0 in
+    let read = decoded_err (eqb (encoded (decoded c.read_u16.result)) c.read_u16.result) (decoded c.read_u16.result) fault c.in_err-ballot.ensures in
     let wrong : eqb (encoded (decoded (code_at bytes i))) (code_at bytes i) ≡ false = ap (λ (k : ℕ). eqb (encoded (decoded k)) k) (sym code) ∙ read.0 in
-    let p = err_from_is_err_and c.from-residual.result c.from-residual.ensures.1 in
+    let p = err_from_is_err_and c.from_residual.result c.from_residual.ensures.1 in
     let found = left_found _ (strange encoded decoded bytes) c.args.n i (numbered 1) (omega arith) (when_true _ _ (ap not wrong)) c.loop-i.invariant.1 in
     subst (EnrolledOf encoded decoded bytes c.args.n c.loop-i.table) (sym p.1) (found ∙ ap Some (sym (ap record_breach p.2 ∙ read.1)))
 
-pub returns-in-err-roll : goal.returns-in-err-roll
-returns-in-err-roll g c =
+pub returns-in_err-roll : goal.returns-in_err-roll
+returns-in_err-roll g c =
     let h : c.loop-i.roll.n < 64 = omega arith in
     let room : c.loop-i.roll.n < length c.loop-i.table = omega arith in
-    absurd (never_refused _ _ _ (c.in-err-roll.ensures.answer ∙ enrolled_done c.loop-i.roll c.loop-i.table h room))
+    absurd (never_refused _ _ _ (c.in_err-roll.ensures.answer ∙ enrolled_done c.loop-i.roll c.loop-i.table h room))
 
 pub returns : goal.returns
 unfolding enrolled_from

@@ -7,33 +7,33 @@ pub returns-then-bytes-lt5 : goal.returns-then-bytes-lt5
 unfolding header_breach
 returns-then-bytes-lt5 c = let short = lt-ltb _ _ c.if-bytes-lt5.true in rw short
 
-pub returns-then-not-is-marked : goal.returns-then-not-is-marked
+pub returns-then-not-is_marked : goal.returns-then-not-is_marked
 unfolding header_breach
-returns-then-not-is-marked c =
+returns-then-not-is_marked c =
     let five = le-ltb _ _ c.if-bytes-lt5.false in
-    let other = sym c.if-not-is-marked.ensures in
+    let other = sym c.if-not-is_marked.ensures in
     rw (five, other)
 
-pub returns-then-not-in-range : goal.returns-then-not-in-range
+pub returns-then-not-in_range : goal.returns-then-not-in_range
 unfolding header_breach
-returns-then-not-in-range c =
+returns-then-not-in_range c =
     let five = le-ltb _ _ c.if-bytes-lt5.false in
-    let mark = sym c.if-not-is-marked.ensures in
-    let other = sym c.if-not-in-range.ensures.value in
+    let mark = sym c.if-not-is_marked.ensures in
+    let other = sym c.if-not-in_range.ensures.value in
     rw (five, mark, other)
 
 pub returns : goal.returns
 unfolding header_breach
 returns c =
     let five = le-ltb _ _ c.if-bytes-lt5.false in
-    let mark = sym c.if-not-is-marked.ensures in
-    let fine = sym c.if-not-in-range.ensures.value in
+    let mark = sym c.if-not-is_marked.ensures in
+    let fine = sym c.if-not-in_range.ensures.value in
     record {
       sound = rw (five, mark, fine);
-      vote = c.vote-of.ensures;
-      kind = c.kind-of.ensures;
+      vote = c.vote_of.ensures;
+      kind = c.kind_of.ensures;
       heads = refl;
-      some = (c.if-not-in-range.ensures.few refl).0;
-      few = (c.if-not-in-range.ensures.few refl).1;
+      some = (c.if-not-in_range.ensures.few refl).0;
+      few = (c.if-not-in_range.ensures.few refl).1;
       five = c.if-bytes-lt5.false;
     }

@@ -4,8 +4,8 @@ use Rattle.std.proofs.lemmas.Result.{IfOk-from_err}
 use Rattle.recordings.specs.Files.{outcome_of}
 use Rattle.recordings.proofs.play.outcomes.Goals as goal
 
-pub returns-in-err-push : goal.returns-in-err-push
-returns-in-err-push g c = IfOk-from_err _ _ c.from-residual.ensures.0
+pub returns-in_err-push : goal.returns-in_err-push
+returns-in_err-push g c = IfOk-from_err _ _ c.from_residual.ensures.0
 
 pub loop-i-preserved : goal.loop-i-preserved
 loop-i-preserved g c =
@@ -14,7 +14,7 @@ loop-i-preserved g c =
     let i = c.loop-i.i in
     let h = c.index-table-i.result in
     let told : c.outcome.result ≡ f (get_or hs i h) = c.outcome.ensures ∙ ap f c.index-table-i.is in
-    c.in-ok-push.ensures.items ∙ ap₂ (λ xs x. xs ++ (x ∷ [])) c.loop-i.invariant told
+    c.in_ok-push.ensures.items ∙ ap₂ (λ xs x. xs ++ (x ∷ [])) c.loop-i.invariant told
     ∙ sym (map-append f (take i hs) (get_or hs i h ∷ [])) ∙ ap (map f) (sym (take_more hs i h (omega arith)))
 
 pub returns : goal.returns

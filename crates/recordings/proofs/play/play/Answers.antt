@@ -21,7 +21,7 @@ returns-in-Recipe c =
     let bytes = c.args.bytes.now in
     let h = c.in-Ok.header in
     let same = named bytes h c.in-Ok.ensures ∙ ap (λ k. played_kind k h.vote h.heads bytes) c.in-Recipe.is in
-    shown c.play-kind.result _ (played bytes) (sym same) c.play-kind.ensures
+    shown c.play_kind.result _ (played bytes) (sym same) c.play_kind.ensures
 
 pub returns-in-Ticket : goal.returns-in-Ticket
 unfolding played_kind
@@ -29,4 +29,4 @@ returns-in-Ticket c =
     let bytes = c.args.bytes.now in
     let h = c.in-Ok.header in
     let same = named bytes h c.in-Ok.ensures ∙ ap (λ k. played_kind k h.vote h.heads bytes) c.in-Ticket.is in
-    shown c.play-kind-in-Ticket.result _ (played bytes) (sym same) c.play-kind-in-Ticket.ensures
+    shown c.play_kind-in-Ticket.result _ (played bytes) (sym same) c.play_kind-in-Ticket.ensures

@@ -10,22 +10,22 @@ use Rattle.recordings.proofs.play.play_as.Goals as goal
 abbrev played_with : List Figures → List Outcome → Played
 played_with rounds heads = record { rounds = rounds; ending = Ok heads }
 
-pub returns-in-err-words : goal.returns-in-err-words
-returns-in-err-words g c = IfOk-from_err _ _ c.from-residual-in-err-words.ensures.0
+pub returns-in_err-words : goal.returns-in_err-words
+returns-in_err-words g c = IfOk-from_err _ _ c.from_residual-in_err-words.ensures.0
 
-pub returns-in-err-ended : goal.returns-in-err-ended
-returns-in-err-ended g c = IfOk-from_err _ _ c.from-residual-in-err-ended.ensures.0
+pub returns-in_err-ended : goal.returns-in_err-ended
+returns-in_err-ended g c = IfOk-from_err _ _ c.from_residual-in_err-ended.ensures.0
 
-pub returns-in-err-heads : goal.returns-in-err-heads
-returns-in-err-heads g c = IfOk-from_err _ _ c.from-residual-in-err-heads.ensures.0
+pub returns-in_err-heads-in-None : goal.returns-in_err-heads-in-None
+returns-in_err-heads-in-None g c = IfOk-from_err _ _ c.from_residual-in_err-heads-in-None.ensures.0
 
 pub returns : goal.returns
 returns g c =
     let encoded = g.B.Coded.encoded in
-    let rounds = vec_items c.play-table.new.rounds in
-    let hs = c.play-table.new.table in
+    let rounds = vec_items c.play_table.new.rounds in
+    let hs = c.play_table.new.table in
     let progress : progress_of g.B.Ballot.earlier encoded g.B.Coded.decoded g.V.Method.scheme c.args.n c.args.bytes.now ≡ going rounds hs =
-    c.in-ok-ended.ensures ∙ ap (λ f. ended_by f rounds hs) c.in-None.is in
-    let room : length hs ≡ c.in-ok-table.table.len = c.play-table.auto.table ∙ c.as-mut-slice.ensures.len in
-    let heads : vec_items c.in-ok-heads.heads ≡ map (outcome_of encoded) hs = c.in-ok-heads.ensures ∙ ap (map (outcome_of encoded)) (c.as-slice.ensures.value ∙ with_items_is c.in-ok-table.table hs room) in
+    c.in_ok-ended.ensures ∙ ap (λ f. ended_by f rounds hs) c.in-None.is in
+    let room : length hs ≡ c.in_ok-table.table.len = c.play_table.auto.table ∙ c.as_mut_slice.ensures.len in
+    let heads : vec_items c.in_ok-heads-in-None.heads ≡ map (outcome_of encoded) hs = c.in_ok-heads-in-None.ensures ∙ ap (map (outcome_of encoded)) (c.as_slice.ensures.value ∙ with_items_is c.in_ok-table.table hs room) in
     ap (played_with rounds) heads ∙ sym (ap (told encoded) progress)

@@ -15,7 +15,7 @@ returns-in-Ok g c =
     let same : progress_of earlier g.B.Coded.encoded g.B.Coded.decoded s n bytes ≡ played_from earlier s c.in-Ok.vote.n bytes (length bytes) (5 + 2 * n) (going [] c.start.new.table) =
     ap (λ b. started_by b (played_from earlier s n bytes (length bytes) (5 + 2 * n) (going [] (enrolled_from g.B.Coded.decoded bytes n)))) started.2
     ∙ ap₂ (λ (m : ℕ) hs. played_from earlier s m bytes (length bytes) (5 + 2 * n) (going [] hs)) (sym started.0) (sym started.3) in
-    progressed c.play-rounds.result _ _ (vec_items c.play-rounds.new.rounds) c.play-rounds.new.table same c.play-rounds.ensures
+    progressed c.play_rounds.result _ _ (vec_items c.play_rounds.new.rounds) c.play_rounds.new.table same c.play_rounds.ensures
 
 pub returns-in-Err : goal.returns-in-Err
 unfolding progress_of

@@ -27,65 +27,65 @@ erred r y f e p = ap play_answer e ∙ ap (λ x. refused (record_breach x) tt) p
 erred_whole : {V : Type 0} (P : HeardRound V → Type 0) (r : Result (HeardRound V) RecordFault) (y : RecordFault) → r ≡ Err y → IfOk r P
 erred_whole P r y e = IfOk-from_err r P (ap is_err e)
 
-pub returns-in-err-check-round : goal.returns-in-err-check-round
-returns-in-err-check-round g c =
+pub returns-in_err-check_round : goal.returns-in_err-check_round
+returns-in_err-check_round g c =
     let earlier = g.B.Ballot.earlier in
     let s = g.V.Method.scheme in
     let v = c.args.vote in
     let bytes = c.args.bytes.now in
     let at = c.args.at in
     let hs = c.args.table.now in
-    let fault = c.in-err-check-round.field-0.0 in
-    let p = err_from_is_err_and c.from-residual.result c.from-residual.ensures.1 in
+    let fault = c.in_err-check_round.field-0.0 in
+    let p = err_from_is_err_and c.from_residual.result c.from_residual.ensures.1 in
     let broken = by_record earlier s v bytes at hs (record_breach fault)
-    (ap (round_breach bytes at) (sym c.requires.0) ∙ sym c.in-err-check-round.ensures.value) in
+    (ap (round_breach bytes at) (sym c.requires.0) ∙ sym c.in_err-check_round.ensures.value) in
     record {
       whole = erred_whole _ _ p.0 p.1;
-      answer = erred c.from-residual.result p.0 fault p.1 p.2 ∙ refused_one earlier s v bytes at hs (record_breach fault) broken;
+      answer = erred c.from_residual.result p.0 fault p.1 p.2 ∙ refused_one earlier s v bytes at hs (record_breach fault) broken;
       table = refused_table earlier s v bytes at hs (record_breach fault) broken;
     }
 
-pub returns-in-err-open : goal.returns-in-err-open
-returns-in-err-open g c =
+pub returns-in_err-open : goal.returns-in_err-open
+returns-in_err-open g c =
     let earlier = g.B.Ballot.earlier in
     let s = g.V.Method.scheme in
     let v = c.args.vote in
     let bytes = c.args.bytes.now in
     let at = c.args.at in
     let hs = c.args.table.now in
-    let e = c.in-err-open.field-0.0 in
-    let p = err_from_is_err_and c.from-residual-in-err-open.result c.from-residual-in-err-open.ensures.1 in
-    let whole : round_breach bytes at v.n ≡ None = ap (round_breach bytes at) (sym c.requires.0) ∙ sym c.in-ok-check-round.ensures.value in
-    let answer : refused (vote_breach e.fault) e.back ≡ opened s v hs (turns_at bytes at) = c.in-err-open.ensures ∙ ap (opened s v hs) c.read-u64.ensures in
+    let e = c.in_err-open.field-0.0 in
+    let p = err_from_is_err_and c.from_residual-in_err-open.result c.from_residual-in_err-open.ensures.1 in
+    let whole : round_breach bytes at v.n ≡ None = ap (round_breach bytes at) (sym c.requires.0) ∙ sym c.in_ok-check_round.ensures.value in
+    let answer : refused (vote_breach e.fault) e.back ≡ opened s v hs (turns_at bytes at) = c.in_err-open.ensures ∙ ap (opened s v hs) c.read_u64.ensures in
     let broken = by_opening earlier s v bytes at hs (vote_breach e.fault) whole
     (unless_refused (open_breach v.n (v.heard + 1) hs (turns_at bytes at)) (vote_breach e.fault) _ v e.back answer) in
     record {
       whole = erred_whole _ _ p.0 p.1;
-      answer = erred c.from-residual-in-err-open.result p.0 (fault.Vote e.fault) p.1 p.2 ∙ refused_one earlier s v bytes at hs (vote_breach e.fault) broken;
+      answer = erred c.from_residual-in_err-open.result p.0 (fault.Vote e.fault) p.1 p.2 ∙ refused_one earlier s v bytes at hs (vote_breach e.fault) broken;
       table = refused_table earlier s v bytes at hs (vote_breach e.fault) broken;
     }
 
-pub returns-in-err-hear : goal.returns-in-err-hear
-returns-in-err-hear g c =
+pub returns-in_err-hear : goal.returns-in_err-hear
+returns-in_err-hear g c =
     let earlier = g.B.Ballot.earlier in
     let s = g.V.Method.scheme in
     let v = c.args.vote in
     let bytes = c.args.bytes.now in
     let at = c.args.at in
     let hs = c.args.table.now in
-    let o = c.in-ok-open.open in
-    let e = c.in-err-hear.field-0.0 in
-    let p = err_from_is_err_and c.from-residual-in-err-hear.result c.from-residual-in-err-hear.ensures.1 in
-    let whole : round_breach bytes at v.n ≡ None = ap (round_breach bytes at) (sym c.requires.0) ∙ sym c.in-ok-check-round.ensures.value in
-    let opening : done (opened_as o) ≡ opened s v hs (turns_at bytes at) = c.in-ok-open.ensures ∙ ap (opened s v hs) c.read-u64.ensures in
-    let q = report_read bytes at v.n (length c.args.words.now) c.read-words.new.words c.read-u64-2.result c.read-u64-3.result
-    c.requires.0 c.read-words.ensures c.read-u64-2.ensures c.read-u64-3.ensures in
+    let o = c.in_ok-open.open in
+    let e = c.in_err-hear.field-0.0 in
+    let p = err_from_is_err_and c.from_residual-in_err-hear.result c.from_residual-in_err-hear.ensures.1 in
+    let whole : round_breach bytes at v.n ≡ None = ap (round_breach bytes at) (sym c.requires.0) ∙ sym c.in_ok-check_round.ensures.value in
+    let opening : done (opened_as o) ≡ opened s v hs (turns_at bytes at) = c.in_ok-open.ensures ∙ ap (opened s v hs) c.read_u64.ensures in
+    let q = report_read bytes at v.n (length c.args.words.now) c.read_words.new.words c.read_u64-2.result c.read_u64-3.result
+    c.requires.0 c.read_words.ensures c.read_u64-2.ensures c.read_u64-3.ensures in
     let told : refused (vote_breach e.fault) e.back ≡ heard earlier s o hs (report_at bytes at v.n) =
-    c.in-err-hear.ensures.answer ∙ ap (heard earlier s o hs) q in
+    c.in_err-hear.ensures.answer ∙ ap (heard earlier s o hs) q in
     record {
       whole = erred_whole _ _ p.0 p.1;
-      answer = erred c.from-residual-in-err-hear.result p.0 (fault.Vote e.fault) p.1 p.2 ∙ ap forget told ∙ heard_one earlier s v bytes at hs o whole opening;
-      table = c.in-err-hear.ensures.table ∙ ap (heard_table earlier s o hs) q ∙ table_heard earlier s v bytes at hs o whole opening;
+      answer = erred c.from_residual-in_err-hear.result p.0 (fault.Vote e.fault) p.1 p.2 ∙ ap forget told ∙ heard_one earlier s v bytes at hs o whole opening;
+      table = c.in_err-hear.ensures.table ∙ ap (heard_table earlier s o hs) q ∙ table_heard earlier s v bytes at hs o whole opening;
     }
 
 pub returns : goal.returns
@@ -96,16 +96,16 @@ returns g c =
     let bytes = c.args.bytes.now in
     let at = c.args.at in
     let hs = c.args.table.now in
-    let o = c.in-ok-open.open in
-    let h = c.in-ok-hear.field-0 in
-    let whole : round_breach bytes at v.n ≡ None = ap (round_breach bytes at) (sym c.requires.0) ∙ sym c.in-ok-check-round.ensures.value in
-    let opening : done (opened_as o) ≡ opened s v hs (turns_at bytes at) = c.in-ok-open.ensures ∙ ap (opened s v hs) c.read-u64.ensures in
-    let q = report_read bytes at v.n (length c.args.words.now) c.read-words.new.words c.read-u64-2.result c.read-u64-3.result
-    c.requires.0 c.read-words.ensures c.read-u64-2.ensures c.read-u64-3.ensures in
+    let o = c.in_ok-open.open in
+    let h = c.in_ok-hear.field-0 in
+    let whole : round_breach bytes at v.n ≡ None = ap (round_breach bytes at) (sym c.requires.0) ∙ sym c.in_ok-check_round.ensures.value in
+    let opening : done (opened_as o) ≡ opened s v hs (turns_at bytes at) = c.in_ok-open.ensures ∙ ap (opened s v hs) c.read_u64.ensures in
+    let q = report_read bytes at v.n (length c.args.words.now) c.read_words.new.words c.read_u64-2.result c.read_u64-3.result
+    c.requires.0 c.read_words.ensures c.read_u64-2.ensures c.read_u64-3.ensures in
     let told : done (begun_as h.vote, h.figures) ≡ heard earlier s o hs (report_at bytes at v.n) =
-    c.in-ok-hear.ensures.answer ∙ ap (heard earlier s o hs) q in
+    c.in_ok-hear.ensures.answer ∙ ap (heard earlier s o hs) q in
     record {
-      whole = subst (λ (k : ℕ). at + round_size k ≤ length bytes) c.requires.0 c.in-ok-check-round.ensures.whole;
+      whole = subst (λ (k : ℕ). at + round_size k ≤ length bytes) c.requires.0 c.in_ok-check_round.ensures.whole;
       answer = ap forget told ∙ heard_one earlier s v bytes at hs o whole opening;
-      table = c.in-ok-hear.ensures.table ∙ ap (heard_table earlier s o hs) q ∙ table_heard earlier s v bytes at hs o whole opening;
+      table = c.in_ok-hear.ensures.table ∙ ap (heard_table earlier s o hs) q ∙ table_heard earlier s v bytes at hs o whole opening;
     }

@@ -19,13 +19,13 @@ loop-at-preserved g c =
     let hs = c.loop-at.table in
     let h = c.in-Ok.heard in
     let inv = c.loop-at.invariant in
-    let t = turn_heard earlier s v bytes at figures hs inv.2 c.loop-at-test.true (begun_as h.vote) h.figures c.play-round.new.table
+    let t = turn_heard earlier s v bytes at figures hs inv.2 c.loop-at-test.true (begun_as h.vote) h.figures c.play_round.new.table
     c.in-Ok.ensures.answer c.in-Ok.ensures.table n inv.0 in
-    let items : vec_items c.push.new.self ≡ figures ++ (h.figures ∷ []) = c.in-ok-push.ensures.items in
-    let width : length c.play-round.new.words ≡ n = c.play-round.auto.words ∙ inv.1 in
+    let items : vec_items c.push.new.self ≡ figures ++ (h.figures ∷ []) = c.in_ok-push-in-Ok.ensures.items in
+    let width : length c.play_round.new.words ≡ n = c.play_round.auto.words ∙ inv.1 in
     let one : h.vote.heard ≡ v.heard + 1 = t.more ∙ length-append figures (h.figures ∷ []) ∙ ap (λ (k : ℕ). k + 1) (sym inv.2) in
     let k : length bytes - v.heard ≡ suc (length bytes - h.vote.heard) = omega arith in
-    let place : at + round_size n ≡ at + (26 + 8 * length c.play-round.new.words) = omega arith in
+    let place : at + round_size n ≡ at + (26 + 8 * length c.play_round.new.words) = omega arith in
     let start = played_from earlier s n bytes in (
       t.same,
       width,
@@ -33,11 +33,11 @@ loop-at-preserved g c =
       omega arith,
       omega (arith, c.in-Ok.ensures.whole),
       inv.5 ∙ ap (λ (m : ℕ). start m at (going figures hs)) k ∙ t.goes (length bytes - h.vote.heard)
-          ∙ ap₂ (λ (m : ℕ) fs. start (length bytes - h.vote.heard) m (going fs c.play-round.new.table)) place (sym items),
+          ∙ ap₂ (λ (m : ℕ) fs. start (length bytes - h.vote.heard) m (going fs c.play_round.new.table)) place (sym items),
     )
 
-pub returns-in-err-push : goal.returns-in-err-push
-returns-in-err-push g c = IfOk-from_err _ _ c.from-residual.ensures.0
+pub returns-in_err-push-in-Ok : goal.returns-in_err-push-in-Ok
+returns-in_err-push-in-Ok g c = IfOk-from_err _ _ c.from_residual.ensures.0
 
 pub returns-in-Err : goal.returns-in-Err
 returns-in-Err g c =

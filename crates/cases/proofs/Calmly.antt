@@ -3,8 +3,7 @@ use Rattle.std.proofs.Common.{◌≡◌, ℕ, zero, suc, ◌<◌, ◌≤◌, Boo
 use Rattle.std.proofs.lemmas.Bool.{and_parts, cases_lt, true≢false}
 use Rattle.sets.specs.Sets.{bit, count, Lone}
 use Rattle.sets.proofs.Words.{bit_past}
-use Rattle.heads.specs.Alarms.{false_alarm}
-use Rattle.heads.specs.Rules.{Calmness}
+use Rattle.heads.specs.Rules.{Calmness, false_alarm}
 use Rattle.heads.specs.Rules.Calmness.{one_turn, no_stop}
 use Rattle.votes.specs.Rounds.{Report, sent, heard_of}
 use Rattle.runs.specs.Calm.{CalmBy}

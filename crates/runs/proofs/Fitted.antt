@@ -11,8 +11,8 @@ use Rattle.heads.specs.declared.alarms.Class.{Class}
 use Rattle.heads.specs.declared.alarms.Class.TheVariants.{Zero, Majority}
 use Rattle.heads.specs.declared.head.Head.{Head}
 use Rattle.heads.specs.declared.head.State.TheVariants.{Running}
-use Rattle.heads.specs.Alarms.{due_by, false_alarm}
-use Rattle.heads.specs.Rules.{Scheme, due, strict, detecting, Calmness, calmness}
+use Rattle.heads.specs.Alarms.{due_by}
+use Rattle.heads.specs.Rules.{Scheme, due, false_alarm, strict, detecting, Calmness, calmness}
 use Rattle.heads.specs.Rules.Scheme.{short, bitwise, split}
 use Rattle.heads.specs.Rules.Calmness.{one_turn}
 use Rattle.parts.specs.Ranges.{in_time, at_head, counted}

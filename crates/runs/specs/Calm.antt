@@ -1,8 +1,7 @@
 -- Calm rounds.
 use Rattle.std.specs.Prelude.{◌≡◌, ℕ, ◌<◌, true, false, slice_index}
 use Rattle.sets.specs.Sets.{bit, Within, Lone}
-use Rattle.heads.specs.Alarms.{false_alarm}
-use Rattle.heads.specs.Rules.{Scheme, Calmness, calmness}
+use Rattle.heads.specs.Rules.{Scheme, false_alarm, Calmness, calmness}
 use Rattle.heads.specs.Rules.Calmness.{one_turn, no_stop}
 use Rattle.votes.specs.Rounds.{Report, sent, heard_of}
 

@@ -8,15 +8,15 @@ pub loop-i-preserved : goal.loop-i-preserved
 loop-i-preserved c =
     let ps = c.args.positions.now in
     let i = c.loop-i.i in
-    ap (all_placed ps) (add-one i) ∙ and_from (leb (get_or ps i 0) 999) (all_placed ps i) (sym c.is-placed.ensures ∙ c.if-not-is-placed.false) c.loop-i.invariant
+    ap (all_placed ps) (add-one i) ∙ and_from (leb (get_or ps i 0) 999) (all_placed ps i) (sym c.is_placed.ensures ∙ c.if-not-is_placed.false) c.loop-i.invariant
 
-pub returns-then-not-is-placed : goal.returns-then-not-is-placed
-returns-then-not-is-placed c =
+pub returns-then-not-is_placed : goal.returns-then-not-is_placed
+returns-then-not-is_placed c =
     let ps = c.args.positions.now in
     let i = c.loop-i.i in
     sym (⊎_elim
     (λ t. absurd (true≢false (sym ((Decides-below_and (λ k. leb (get_or ps k 0) 999) (λ k. leb (get_or ps k 0) 999 ≡ true) (all_placed ps) (λ k. (λ e. e, λ e. e)) refl (λ _. refl) (length ps)).0 t i c.loop-i-test.true)
-    ∙ sym c.is-placed.ensures ∙ c.if-not-is-placed.true)))
+    ∙ sym c.is_placed.ensures ∙ c.if-not-is_placed.true)))
     (λ f. f) (cases_Bool (all_placed ps (length ps))))
 
 pub returns : goal.returns

@@ -8,6 +8,7 @@ use channels::dead::DeadSpells;
 use detectors::interference::Interference;
 use driving::{begin, drive};
 use heads::bitwise::Bitwise;
+use heads::fitted::Fitted;
 use heads::head::{Ballots, Head, Prefix, State};
 use heads::method::Method;
 use heads::short::Short;
@@ -229,7 +230,7 @@ impl Course {
     }
 
     // The vote by one method, from its roll on.
-    fn by_method<B: Coded, V: Method<B> + Drop>(
+    fn by_method<B: Coded, V: Fitted<B> + Drop>(
         &mut self,
         method: V,
         table: &mut [Head<B>],

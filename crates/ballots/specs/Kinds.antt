@@ -1,5 +1,5 @@
 -- Recipes and tickets by their numbers.
-use Rattle.std.specs.Prelude.{ℕ, ◌%◌, Bool, cond, ◌||◌, Ok, Err, Result, ◌==◌, nat_lt}
+use Rattle.std.specs.Prelude.{ℕ, ◌%◌, cond, ◌||◌, Ok, Err, Result, ◌==◌, nat_lt}
 use Rattle.std.proofs.Common.{arith}
 use Rattle.ballots.specs.declared.faults.BallotFault.{BallotFault}
 use Rattle.ballots.specs.declared.faults.BallotFault.TheVariants.{BeyondRange}

@@ -1,5 +1,5 @@
 -- Ballots with equal fields are equal: a range has one proof at most.
-use Rattle.std.specs.Prelude.{◌≡◌, ℕ, ◌≤◌}
+use Rattle.std.specs.Prelude.{◌≡◌, ◌≤◌}
 use mathlib.Core.HLevel.{is_prop→PathP, ×_prop}
 use Rattle.std.proofs.Math.Bridge.{le_prop}
 use Rattle.ballots.specs.declared.kinds.Recipe.{Recipe}

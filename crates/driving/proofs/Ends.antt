@@ -20,9 +20,9 @@ use Rattle.votes.specs.declared.stages.HeardRound.{HeardRound}
 use Rattle.votes.specs.declared.stages.Figures.{Figures}
 use Rattle.votes.specs.Faults.{vote_breach}
 use Rattle.votes.specs.Tables.{running, lowest_idle}
-use Rattle.votes.specs.Rounds.{Report, senders, sent, report_breach, after}
+use Rattle.votes.specs.Rounds.{Report, sent, report_breach, after}
 use Rattle.votes.specs.Calls.{done, refused, unless, changed, Begun, Opened, begun_as, opened_as, at_lowest, short_table, word_count, rounds_spent, open_breach, open_answer, opened, withdrawn, hear_breach, figures_of, hear_answer, heard, heard_table, running_in}
-use Rattle.runs.specs.Driving.{Driving, driving, round, runners, turns, sending, alarm, words, alarms, report, early_breach, drive_breach, driven_table, driven_list}
+use Rattle.runs.specs.Driving.{Driving, round, runners, turns, sending, alarm, words, alarms, report, early_breach, drive_breach, driven_table, driven_list}
 use Rattle.runs.proofs.Answered.{accepted_by, refused_by}
 use Rattle.runs.proofs.Views.{none_both, when_none}
 use Rattle.runs.proofs.Drivings.{length_words, word_at}

@@ -1,15 +1,15 @@
 -- The walk over the heads that were heard, and what it finds.
-use Rattle.std.proofs.Common.{◌≡◌, ℕ, zero, suc, ◌+◌, ◌-◌, ◌<◌, ◌≤◌, Bool, true, false, cond, ◌||◌, ◌⊎◌, List, length, get_or, Some, None, Decides, Option, sym, refl, ap, ◌∙◌, subst, inl, inr, ⊎_elim, add-one, arith}
-use Rattle.std.proofs.lemmas.Option.{slice_get-get_or, slice_get_past}
-use Rattle.std.proofs.lemmas.Bool.{cases_lt, true≢false, or_cases, or_left, or_right}
+use Rattle.std.proofs.Common.{◌≡◌, ℕ, zero, suc, ◌+◌, ◌-◌, ◌<◌, ◌≤◌, Bool, true, false, cond, ◌||◌, ◌⊎◌, List, length, Some, None, Decides, Option, sym, refl, ap, ◌∙◌, subst, inl, inr, ⊎_elim, add-one, arith}
+use Rattle.std.proofs.lemmas.Option.{slice_get_past}
+use Rattle.std.proofs.lemmas.Bool.{cases_lt, true≢false, or_right}
 use Rattle.std.specs.List.{slice_get}
 use Rattle.std.specs.Option.{option_map}
 use Rattle.sets.specs.Sets.{bit, lowest_from}
-use Rattle.sets.proofs.Searches.{Found, lowest_some, lowest_none}
+use Rattle.sets.proofs.Searches.{lowest_some, lowest_none}
 use Rattle.ballots.specs.Order.{Total}
 use Rattle.heads.specs.declared.head.Ballots.{Ballots}
 use Rattle.heads.specs.declared.head.Head.{Head}
-use Rattle.heads.specs.Heard.{estimate_at, lesser, apart, joined, no_ballots, ballots_below, ballots_of, From, IsLeast, TwoHeard}
+use Rattle.heads.specs.Heard.{estimate_at, joined, no_ballots, ballots_below, ballots_of, From, IsLeast, TwoHeard}
 
 is_false : (t : Bool) → (t ≡ true → ⊥) → t ≡ false
 is_false true h = absurd (h refl)

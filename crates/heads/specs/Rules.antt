@@ -1,5 +1,5 @@
 -- The three votes: when a head sends, what it keeps of what it hears, and when it decides.
-use Rattle.std.specs.Prelude.{ℕ, ◌+◌, ◌-◌, ◌*◌, ◌/◌, ◌%◌, ◌^◌, Bool, true, false, cond, not, ◌&&◌, ◌||◌, is_some, Some, None, Option, ◌==◌, nat_le, nat_lt}
+use Rattle.std.specs.Prelude.{ℕ, ◌+◌, ◌-◌, ◌*◌, ◌/◌, ◌%◌, ◌^◌, Bool, true, false, cond, not, ◌&&◌, ◌||◌, is_some, ◌==◌, nat_le, nat_lt}
 use Rattle.std.specs.Option.{unwrap_or}
 use Rattle.sets.specs.Sets.{bit}
 use Rattle.ballots.specs.Order.{Coding}
@@ -8,8 +8,7 @@ use Rattle.heads.specs.declared.alarms.Class.TheVariants.{Zero, Majority}
 use Rattle.heads.specs.declared.head.Ballots.{Ballots}
 use Rattle.heads.specs.declared.head.Head.{Head}
 use Rattle.heads.specs.declared.head.Heard.{Heard}
-use Rattle.heads.specs.declared.head.State.{State}
-use Rattle.heads.specs.declared.head.State.TheVariants.{Running, Decided, Stopped}
+use Rattle.heads.specs.declared.head.State.TheVariants.{Decided, Stopped}
 
 -- the votes; those on codes have the width W of a code, a ballot's code and the way back
 pub data Scheme (B : Type 0) : Type 0 where

@@ -4,7 +4,6 @@ use Rattle.std.proofs.lemmas.Bool.{le-leb, lt-leb}
 use Rattle.std.specs.declared.alloc.AllocError.{AllocError}
 use Rattle.recordings.specs.declared.faults.FileFault.{FileFault}
 use Rattle.recordings.specs.declared.listing.Listing.{Listing}
-use Rattle.sets.specs.Search.{or_else}
 use Rattle.ballots.specs.Faults.{Breach}
 use Rattle.heads.specs.declared.head.Head.{Head}
 use Rattle.heads.specs.Rules.{Scheme}

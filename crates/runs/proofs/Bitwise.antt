@@ -6,10 +6,10 @@ use Rattle.sets.specs.Sets.{bit}
 use Rattle.sets.proofs.Words.{same_bits}
 use Rattle.ballots.specs.Order.{Coding}
 use Rattle.heads.specs.declared.head.Head.{Head}
-use Rattle.heads.specs.Rules.{Scheme, in_cycle, code_bit, says, keeps, noisy, moved, lowered, decided, stopped}
+use Rattle.heads.specs.Rules.{Scheme, in_cycle, code_bit, says, keeps, noisy, moved, lowered, decided}
 use Rattle.heads.specs.Rules.Scheme.{bitwise}
 use Rattle.runs.proofs.Tests.{Or, decide, and_right, and_both, not_in, not_out, cond-true, cond-false, holds, same_test}
-use Rattle.runs.proofs.Steps.{Heads, is_running, is_decided, runs, done, Alive, not_both, Events, heard, hears, sends, Step, Quiet, Small, NoHeadRuns, sender_runs, runs_back, went, done_back, alive_back, small_on, none_on, adopted_from, silence, no_noise, quiet_adopts}
+use Rattle.runs.proofs.Steps.{Heads, is_running, is_decided, runs, done, Alive, not_both, Events, hears, sends, Step, Quiet, Small, NoHeadRuns, sender_runs, runs_back, went, done_back, alive_back, small_on, none_on, adopted_from, silence, no_noise, quiet_adopts}
 
 -- ---- where the round after r heard ones stands in its cycle
 

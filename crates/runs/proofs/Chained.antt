@@ -19,7 +19,7 @@ use Rattle.votes.specs.Tables.{running}
 use Rattle.votes.specs.Rounds.{Report, senders, after}
 use Rattle.votes.specs.Calls.{unless, changed, Begun, Opened, begun_as, opened_as, short_table, open_breach, open_answer, opened, withdrawn, hear_breach, figures_of, hear_answer, heard, heard_table}
 use Rattle.runs.specs.Calm.{Calm, CalmBy, OneTurn}
-use Rattle.runs.specs.Driving.{Parts, Driving, driving, round, runners, turns, sending, alarms, report, drive_breach, drive_answer, driven, driven_table}
+use Rattle.runs.specs.Driving.{Parts, Driving, driving, runners, turns, sending, alarms, report, drive_breach, drive_answer, driven, driven_table}
 use Rattle.runs.specs.Chains.{Stage, voting, in_open_round, heads, rounds, after_opening, after_hearing, after_driving, Handed, whole, too_short, standing, Counts, Calls, none, opens, withdraws, hears, drives}
 use Rattle.runs.specs.Promise.{Steps}
 use Rattle.runs.specs.Promise.Steps.{step}

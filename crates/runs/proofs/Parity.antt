@@ -1,5 +1,5 @@
 -- Odd and even rounds take turns.
-use Rattle.std.proofs.Common.{◌≡◌, ℕ, ◌+◌, ◌%◌, not, T, eqb, ◌≢◌, arith, eqb→eq}
+use Rattle.std.proofs.Common.{◌≡◌, ℕ, ◌+◌, ◌%◌, not, T, ◌≢◌, arith, eqb→eq}
 use Rattle.std.proofs.lemmas.Bool.{eq-eqb}
 use Rattle.heads.specs.Rules.{odd}
 use Rattle.runs.proofs.Tests.{holds, same_test, not_in, not_out}

@@ -2,7 +2,7 @@
 use Rattle.std.proofs.Common.{◌≡◌, ℕ, suc, ◌+◌, ◌*◌, ◌<◌, ◌≤◌, Bool, true, false, cond, not, ◌&&◌, ◌||◌, T, ltb, leb, ◌⊎◌, is_some, Some, None, Option, unwrap_or, sym, refl, ap, ◌∙◌, subst, inl, inr, lt_of_not-le, arith}
 use Rattle.std.proofs.lemmas.Bool.{lt-ltb, le-leb}
 use Rattle.heads.specs.declared.head.Head.{Head}
-use Rattle.heads.specs.Rules.{odd, says, keeps, noisy, moved, decided, stopped, only_one}
+use Rattle.heads.specs.Rules.{odd, says, keeps, noisy, moved, decided, only_one}
 use Rattle.heads.specs.Rules.Scheme.{short}
 use Rattle.runs.proofs.Tests.{Or, decide, and_left, and_right, and_both, or_left, or_right, or_cases, not_in, not_out, cond-true, cond-false, holds, is_false}
 use Rattle.runs.proofs.Parity.{odd_then, even_then}

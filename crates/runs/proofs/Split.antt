@@ -9,13 +9,13 @@ use Rattle.heads.specs.declared.head.Head.{Head}
 use Rattle.heads.specs.declared.head.Prefix.{Prefix}
 use Rattle.heads.specs.declared.head.Heard.{Heard}
 use Rattle.heads.specs.declared.head.State.TheVariants.{Decided}
-use Rattle.heads.specs.Rules.{Scheme, odd, begins, keeps, noisy, stopped}
+use Rattle.heads.specs.Rules.{Scheme, odd, begins, keeps, noisy}
 use Rattle.heads.specs.Rules.Scheme.{split}
 use Rattle.votes.specs.Calls.{fresh}
 use Rattle.runs.proofs.Tests.{Or, decide, and_left, and_right, and_both, or_cases, cond-true, cond-false, holds, same_test}
 use Rattle.runs.proofs.Parity.{odd_next}
 use Rattle.runs.proofs.Counts.{count_some, count_pos}
-use Rattle.runs.proofs.Steps.{Heads, is_running, is_decided, runs, done, Alive, not_both, Events, heard, hears, sends, total, Step, Small, NoHeadRuns, sender_runs, runs_back, went, done_back, alive_back, silence}
+use Rattle.runs.proofs.Steps.{Heads, is_running, is_decided, runs, done, Alive, not_both, Events, heard, hears, sends, total, Step, Small, NoHeadRuns, sender_runs, runs_back, done_back, alive_back, silence}
 
 half_pow : (x k : ℕ) → x / 2 ^ k / 2 ≡ x / 2 ^ suc k
 half_pow x k = shr-shr x k 1 ∙ ap (λ (m : ℕ). x / 2 ^ m) (add-one k)

@@ -4,7 +4,7 @@ use Rattle.std.proofs.lemmas.Bool.{lt-ltb, le-ltb, cases_lt, true≢false, eq-eq
 use Rattle.std.specs.List.{slice_get}
 use Rattle.std.specs.Option.{option_map}
 use Rattle.sets.specs.Search.{when, or_else, first_from, first}
-use Rattle.sets.specs.Sets.{bit, count, word_of}
+use Rattle.sets.specs.Sets.{bit, word_of}
 use Rattle.sets.proofs.Words.{bit_word, bit_past, word_below, count_same}
 use Rattle.sets.proofs.Searches.{lowest_none}
 use Rattle.ballots.specs.Order.{Total}

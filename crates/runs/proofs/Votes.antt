@@ -8,7 +8,7 @@ use Rattle.heads.specs.Rules.{Scheme, Fit, odd, Calmness, calmness, calm_bound}
 use Rattle.heads.specs.Rules.Scheme.{short, bitwise, split}
 use Rattle.heads.specs.Rules.Calmness.{one_turn, no_stop}
 use Rattle.votes.specs.Calls.{fresh}
-use Rattle.runs.proofs.Steps.{Heads, is_running, is_decided, runs, done, Alive, Events, Step, Quiet, Small, NoHeadRuns}
+use Rattle.runs.proofs.Steps.{Heads, is_running, is_decided, done, Alive, Events, Step, Quiet, Small, NoHeadRuns}
 use Rattle.runs.proofs.Short as of-short
 use Rattle.runs.proofs.Bitwise as of-bits
 use Rattle.runs.proofs.Split as of-split

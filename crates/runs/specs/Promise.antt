@@ -1,7 +1,7 @@
 -- The promise: what holds of every chain of calls from a vote just begun.
 use Rattle.std.specs.Prelude.{◌≡◌, ℕ, ◌+◌, ◌<◌, ◌≤◌, max, Bool, List, Some, None, Option, ◌≢◌}
 use Rattle.std.specs.List.{slice_get}
-use Rattle.sets.specs.Search.{when, or_else}
+use Rattle.sets.specs.Search.{or_else}
 use Rattle.ballots.specs.Faults.{Breach}
 use Rattle.heads.specs.declared.alarms.Class.TheVariants.{Majority}
 use Rattle.heads.specs.declared.head.Head.{Head}

@@ -1,5 +1,5 @@
 -- Counts of the ones of a word.
-use Rattle.std.proofs.Common.{◌≡◌, ℕ, zero, suc, ◌+◌, ◌*◌, ◌/◌, ◌%◌, ◌^◌, ◌<◌, ◌≤◌, Bool, true, false, cond, eqb, sym, refl, ap, ◌∙◌, subst, ap₂, not-suc-le-zero, mod-lt, div-one, add-one, arith}
+use Rattle.std.proofs.Common.{◌≡◌, ℕ, zero, suc, ◌+◌, ◌/◌, ◌%◌, ◌^◌, ◌<◌, Bool, cond, eqb, sym, refl, ap, ◌∙◌, ap₂, mod-lt, div-one, add-one, arith}
 use lib.Bits.{bit_and, and_mask}
 use lib.Count.{ones, ones_step}
 use Rattle.std.proofs.lemmas.Nat.{shr-shr, shr_below}

@@ -1,10 +1,10 @@
 -- Words as sets: the operations bit by bit.
-use Rattle.std.proofs.Common.{◌≡◌, ℕ, zero, suc, ◌+◌, ◌-◌, ◌*◌, ◌/◌, ◌%◌, ◌^◌, ◌<◌, ◌≤◌, Bool, true, false, cond, not, ◌&&◌, ◌||◌, eqb, ◌⊎◌, sym, refl, ap, ◌∙◌, subst, ap₂, inl, inr, ⊎_elim, lt_of_lt_of_le, not-suc-le-zero, lt_of_le_of_lt, mod-lt, mod-eq_of_lt, one-mul, pow-suc, div-add-mod', div-one, mul-div_cancel, add-one, arith, pow_mono}
+use Rattle.std.proofs.Common.{◌≡◌, ℕ, zero, suc, ◌+◌, ◌-◌, ◌*◌, ◌/◌, ◌%◌, ◌^◌, ◌<◌, ◌≤◌, Bool, true, false, cond, not, ◌&&◌, ◌||◌, eqb, sym, refl, ap, ◌∙◌, subst, ap₂, ⊎_elim, lt_of_lt_of_le, not-suc-le-zero, mod-lt, one-mul, pow-suc, div-one, mul-div_cancel, add-one, arith, pow_mono}
 use native.Mathlib.Nat.{div-eq_of_lt, mul-mod_left}
 use lib.Dec.{eqb-suc-zero, eqb-zero-suc, eqb-suc-suc}
 use lib.Count.{ones, count_trailing_zeros, under}
-use lib.Bits.{bit_and, bit_or, or_shifted_r, and_le_l, and_shr, and_mod, or_shr, or_mod}
-use Rattle.std.proofs.lemmas.Nat.{shr_below, pow_pos, shr-shr, one_shl}
+use lib.Bits.{bit_and, bit_or, or_shifted_r, and_shr, and_mod, or_shr, or_mod}
+use Rattle.std.proofs.lemmas.Nat.{shr_below, shr-shr, one_shl}
 use Rattle.std.proofs.lemmas.Bool.{cases_lt, eq-eqb, ne_eqb, true≢false}
 use Rattle.sets.specs.Sets.{bit, count, word_of, Within}
 use Rattle.sets.proofs.Counting.{bit_rest, bit_first, ones_count}

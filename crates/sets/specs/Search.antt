@@ -1,5 +1,5 @@
 -- The first of several answers, and the first number that has one.
-use Rattle.std.specs.Prelude.{ℕ, zero, suc, ◌+◌, Bool, true, false, cond, Some, None, Option}
+use Rattle.std.specs.Prelude.{ℕ, zero, suc, ◌+◌, Bool, cond, Some, None, Option}
 
 -- an answer where a test holds
 abbrev pub when : {A : Type 0} → Bool → A → Option A

@@ -1,5 +1,5 @@
 -- A set of heads is a word of 64 bits: head i is in it where bit i is 1.
-use Rattle.std.specs.Prelude.{◌≡◌, ℕ, zero, suc, ◌+◌, ◌/◌, ◌%◌, ◌^◌, Bool, true, false, cond, Option, ◌==◌}
+use Rattle.std.specs.Prelude.{◌≡◌, ℕ, zero, suc, ◌+◌, ◌/◌, ◌%◌, ◌^◌, Bool, true, cond, Option, ◌==◌}
 use Rattle.sets.specs.Search.{when, first_from}
 
 unfoldable pub bit : ℕ → ℕ → Bool

@@ -1,7 +1,7 @@
 -- The check of a report, head by head.
 use Rattle.std.proofs.Common.{◌≡◌, ℕ, ◌+◌, ◌<◌, Bool, true, false, not, ◌&&◌, List, get_or, is_some, Some, None, Option, sym, refl, ap, ◌∙◌, arith}
 use Rattle.std.proofs.lemmas.Bool.{true≢false}
-use Rattle.sets.specs.Search.{when, or_else, first}
+use Rattle.sets.specs.Search.{or_else, first}
 use Rattle.sets.specs.Sets.{bit}
 use Rattle.sets.proofs.Searches.{left, left_step, left_skip, left_all, when_false}
 use Rattle.ballots.specs.Faults.{Breach}

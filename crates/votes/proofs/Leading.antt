@@ -1,13 +1,13 @@
 -- A head that hears a sender with the least ballot of all hears that ballot as its least.
-use Rattle.std.proofs.Common.{◌≡◌, ℕ, zero, suc, ◌+◌, ◌<◌, ◌≤◌, Bool, true, false, not, ◌&&◌, eqb, ◌⊎◌, List, [], ◌∷◌, length, IfSome, Some, None, Option, sym, refl, ap, ◌∙◌, subst, ap₂, inl, inr, ⊎_elim, arith}
-use Rattle.std.proofs.lemmas.Bool.{true≢false, and_parts, not-true, eqb-true, ne_eqb, eq-eqb, cases_lt, cases_Bool}
+use Rattle.std.proofs.Common.{◌≡◌, ℕ, zero, suc, ◌<◌, ◌≤◌, Bool, true, false, not, ◌&&◌, ◌⊎◌, List, [], ◌∷◌, length, IfSome, Some, None, Option, sym, refl, ap, ◌∙◌, ap₂, inl, inr, ⊎_elim, arith}
+use Rattle.std.proofs.lemmas.Bool.{true≢false, and_parts, not-true, cases_lt}
 use Rattle.sets.specs.Sets.{bit, word_of, lowest}
 use Rattle.sets.proofs.Words.{bit_word, bit_past, same_bits, word_below}
-use Rattle.sets.proofs.Searches.{Found, lowest_some, lowest_none}
+use Rattle.sets.proofs.Searches.{lowest_some, lowest_none}
 use Rattle.ballots.specs.Order.{Total}
 use Rattle.heads.specs.declared.head.Ballots.{Ballots}
 use Rattle.heads.specs.declared.head.Head.{Head}
-use Rattle.heads.specs.Heard.{estimate_at, ballots_of, From, IsLeast, TwoHeard}
+use Rattle.heads.specs.Heard.{estimate_at, ballots_of, From, IsLeast}
 use Rattle.heads.proofs.Walks.{Right, right}
 use Rattle.votes.specs.declared.leaders.Leaders.{Leaders}
 use Rattle.votes.specs.Leaders.{alike, holds, having, Leads, Led}

@@ -1,5 +1,5 @@
 -- The two passes over the table are one round.
-use Rattle.std.proofs.Common.{◌≡◌, ℕ, zero, suc, ◌+◌, Bool, true, false, cond, List, [], ◌∷◌, get_or, Some, Option, sym, refl, ap, ◌∙◌, ap₂, arith}
+use Rattle.std.proofs.Common.{◌≡◌, ℕ, zero, suc, ◌+◌, Bool, true, false, cond, List, [], ◌∷◌, get_or, Some, sym, refl, ap, ◌∙◌, ap₂, arith}
 use Rattle.std.proofs.lemmas.Bool.{true≢false}
 use Rattle.sets.specs.Sets.{bit}
 use Rattle.sets.proofs.Words.{bit_past}
@@ -12,8 +12,8 @@ use Rattle.heads.specs.Rules.{Scheme, of_ballots, keeps}
 use Rattle.heads.specs.Rules.Scheme.{short, bitwise, split}
 use Rattle.heads.specs.Heard.{estimate_at, joined, ballots_below, ballots_of, no_ballots}
 use Rattle.votes.specs.Tables.{rewrite, rewrite_from}
-use Rattle.votes.specs.Rounds.{Report, stepped, step_at, hears, after}
-use Rattle.votes.specs.Passes.{with_ballots, noted, note_at, listened, recalls, take_at}
+use Rattle.votes.specs.Rounds.{Report, stepped, step_at, after}
+use Rattle.votes.specs.Passes.{with_ballots, noted, note_at, recalls, take_at}
 use Rattle.votes.proofs.Rewrites.{rewrite_twice, rewrite_same}
 
 -- tables with the same estimates bring the same ballots

@@ -1,5 +1,5 @@
 -- Each fault by its number and the values that it names.
-use Rattle.std.specs.Prelude.{ℕ, Some, None, Ok, Err, Option, Result}
+use Rattle.std.specs.Prelude.{ℕ, Some, None, Ok, Err, Result}
 use Rattle.ballots.specs.declared.faults.BallotFault.{BallotFault}
 use Rattle.ballots.specs.Faults.{Breach, numbered, in_round, at_head, ballot_breach}
 use Rattle.votes.specs.declared.faults.VoteFault.{VoteFault}

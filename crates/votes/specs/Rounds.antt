@@ -1,10 +1,9 @@
 -- One round: who sends, which report of it is refused, and the heads' records after it.
-use Rattle.std.specs.Prelude.{◌≡◌, ℕ, ◌≤◌, Bool, true, false, cond, not, ◌&&◌, ◌||◌, List, Some, None, Option, ◌==◌, slice_index}
+use Rattle.std.specs.Prelude.{◌≡◌, ℕ, ◌≤◌, Bool, false, cond, not, ◌&&◌, ◌||◌, List, Some, None, Option, ◌==◌, slice_index}
 use Rattle.std.specs.List.{slice_get}
 use Rattle.sets.specs.Search.{when, or_else, first}
 use Rattle.sets.specs.Sets.{bit, count, word_of}
 use Rattle.ballots.specs.Faults.{Breach, at_head}
-use Rattle.heads.specs.declared.head.Ballots.{Ballots}
 use Rattle.heads.specs.declared.head.Head.{Head}
 use Rattle.heads.specs.declared.head.Heard.{Heard}
 use Rattle.heads.specs.declared.head.State.{State}

@@ -1,8 +1,8 @@
-use Rattle.std.proofs.Common.{◌≡◌, ℕ, ◌+◌, ◌-◌, ◌/◌, ◌^◌, ◌<◌, ◌≤◌, Some, None, sym, refl, ap, ◌∙◌, arith}
+use Rattle.std.proofs.Common.{◌≡◌, ℕ, ◌+◌, ◌-◌, ◌/◌, ◌^◌, ◌<◌, None, sym, refl, ◌∙◌, arith}
 use lib.Count.{count_trailing_zeros}
 use Rattle.sets.specs.Search.{when}
 use Rattle.sets.specs.Sets.{bit}
-use Rattle.sets.proofs.Searches.{left, left_all, left_skip, left_found, when_false, when_true}
+use Rattle.sets.proofs.Searches.{left_all, left_skip, left_found, when_false, when_true}
 use Rattle.sets.proofs.Words.{bit_shr, trailing_low, trailing_at}
 use Rattle.sets.proofs.next.Goals as goal
 

@@ -1,10 +1,10 @@
 use Rattle.std.proofs.Common.{◌≡◌, ◌-◌, get_or, Some, Decides, sym, ◌∙◌, subst, arith}
 use Rattle.std.proofs.lemmas.Option.{slice_get-get_or}
 use Rattle.sets.specs.Sets.{bit}
-use Rattle.sets.proofs.Searches.{Found, lowest_some}
+use Rattle.sets.proofs.Searches.{lowest_some}
 use Rattle.heads.specs.declared.head.Ballots.{Ballots}
 use Rattle.heads.specs.Heard.{joined, IsLeast, TwoHeard}
-use Rattle.heads.proofs.Walks.{below_none, walk_more, walk_all, walk_past, Right, right, differ_decides}
+use Rattle.heads.proofs.Walks.{below_none, walk_more, walk_all, walk_past, right, differ_decides}
 use Rattle.heads.proofs.ballots_heard.ballots_heard.Goals as goal
 
 pub loop-i-init : goal.loop-i-init

@@ -1,5 +1,4 @@
-use Rattle.std.proofs.Common.{◌≡◌, ℕ, List, [], ◌∷◌, ◌++◌, vec_items, decimal, ap, ◌∙◌}
-use Rattle.recordings.specs.Files.{Located}
+use Rattle.std.proofs.Common.{ℕ, List, [], ◌∷◌, ◌++◌, vec_items, decimal, ap, ◌∙◌}
 use Rattle.listings.specs.Texts.{or_dash, fault_line, ◌▹◌}
 use Rattle.listings.proofs.Appends.{more}
 use Rattle.listings.proofs.lines.push_fault.Goals as goal

@@ -1,6 +1,6 @@
-use Rattle.std.proofs.Common.{◌≡◌, ◌++◌, get_or, take, vec_items, sym, ap, ◌∙◌, arith}
+use Rattle.std.proofs.Common.{◌++◌, take, vec_items, sym, ap, ◌∙◌, arith}
 use Rattle.std.proofs.lemmas.List.{take_all}
-use Rattle.listings.specs.Texts.{head_line, head_lines}
+use Rattle.listings.specs.Texts.{head_lines}
 use Rattle.listings.proofs.Appends.{more, heads_none, heads_more}
 use Rattle.listings.proofs.text.push_heads.Goals as goal
 

@@ -1,5 +1,5 @@
 use Rattle.std.proofs.Common.{◌≡◌, ℕ, ◌+◌, ◌*◌, [], length, vec_items, sym, ap, ◌∙◌, ap₂}
-use Rattle.recordings.specs.Files.{record_breach, started_by, played_from, enrolled_from, codes_breach, progress_of}
+use Rattle.recordings.specs.Files.{record_breach, started_by, played_from, enrolled_from, progress_of}
 use Rattle.recordings.specs.Files.Progress.{going, ended}
 use Rattle.recordings.proofs.Plays.{progressed}
 use Rattle.recordings.proofs.play.play_table.Goals as goal

@@ -1,10 +1,9 @@
-use Rattle.std.proofs.Common.{◌≡◌, ℕ, suc, ◌+◌, ◌-◌, ◌*◌, List, [], ◌∷◌, ◌++◌, length, vec_items, sym, ap, ◌∙◌, ap₂, arith, length-append}
-use Rattle.std.proofs.lemmas.Result.{err_from_is_err_and, IfOk-from_err}
-use Rattle.votes.specs.declared.stages.Figures.{Figures}
+use Rattle.std.proofs.Common.{◌≡◌, ℕ, suc, ◌+◌, ◌-◌, ◌*◌, [], ◌∷◌, ◌++◌, length, vec_items, sym, ap, ◌∙◌, ap₂, arith, length-append}
+use Rattle.std.proofs.lemmas.Result.{IfOk-from_err}
 use Rattle.votes.specs.Calls.{begun_as}
 use Rattle.recordings.specs.Files.{record_breach, round_size, played_from}
 use Rattle.recordings.specs.Files.Progress.{going}
-use Rattle.recordings.proofs.Plays.{Turn, turn_heard, turn_refused, played_end}
+use Rattle.recordings.proofs.Plays.{turn_heard, turn_refused, played_end}
 use Rattle.recordings.proofs.rounds.play_rounds.Goals as goal
 
 pub loop-at-preserved : goal.loop-at-preserved

@@ -1,4 +1,4 @@
-use Rattle.std.proofs.Common.{◌≡◌, ℕ, ◌&&◌, ap, ◌∙◌}
+use Rattle.std.proofs.Common.{ℕ, ◌&&◌, ap, ◌∙◌}
 use Rattle.sets.specs.Sets.{bit, count}
 use Rattle.sets.proofs.Words.{count_word}
 use Rattle.votes.proofs.checks.heard_of.Goals as goal

@@ -1,4 +1,4 @@
-use Rattle.std.proofs.Common.{◌≡◌, ℕ, None, sym, ap, ◌∙◌, arith}
+use Rattle.std.proofs.Common.{◌≡◌, None, sym, ap, ◌∙◌, arith}
 use Rattle.sets.specs.Search.{first}
 use Rattle.sets.proofs.Searches.{left_more, left_found, left_all, when_true, when_false, none_is, or_else_next, or_else_this}
 use Rattle.votes.specs.Rounds.{stranger, report_breach}

@@ -1,4 +1,4 @@
-use Rattle.std.proofs.Common.{◌≡◌, ℕ, Option, sym, ap, ◌∙◌, arith}
+use Rattle.std.proofs.Common.{sym, ap, ◌∙◌, arith}
 use Rattle.std.specs.List.{slice_get}
 use Rattle.sets.proofs.Searches.{left_start, left_some, left_more, left_all, none_is}
 use Rattle.votes.specs.Calls.{ballot_of}

@@ -1,5 +1,5 @@
-use Rattle.std.proofs.Common.{◌≡◌, ℕ, ◌≤◌, Bool, ap, ◌∙◌}
-use Rattle.sets.specs.Sets.{bit, count, word_of}
+use Rattle.std.proofs.Common.{◌≡◌, ℕ, ap, ◌∙◌}
+use Rattle.sets.specs.Sets.{bit, count}
 use Rattle.sets.proofs.Words.{count_set}
 use Rattle.heads.specs.declared.head.State.TheVariants.{Running, Decided}
 use Rattle.votes.specs.Tables.{stands, in_state}

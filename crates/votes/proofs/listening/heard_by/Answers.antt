@@ -1,7 +1,7 @@
-use Rattle.std.proofs.Common.{◌≡◌, ℕ, Bool, true, false, not, ◌&&◌, eqb, sym, refl, ap, ◌∙◌}
+use Rattle.std.proofs.Common.{ℕ, Bool, not, ◌&&◌, eqb, sym, ◌∙◌}
 use Rattle.std.proofs.lemmas.Option.{MatchOption-at_some}
 use Rattle.std.proofs.lemmas.Bool.{not-true, not-false, eqb-true, eqb-false}
-use Rattle.sets.specs.Sets.{bit, word_of}
+use Rattle.sets.specs.Sets.{bit}
 use Rattle.votes.specs.Leaders.{Leads}
 use Rattle.votes.proofs.Leading.{none_in, some_in, led_ballots}
 use Rattle.votes.proofs.listening.heard_by.Goals as goal

@@ -1,8 +1,7 @@
-use Rattle.std.proofs.Common.{◌≡◌, ℕ, ◌<◌, Bool, true, false, not, ◌&&◌, eqb, ◌⊎◌, sym, refl, ap, ◌∙◌, inl, inr, ⊎_elim}
-use Rattle.std.proofs.lemmas.Bool.{true≢false, and_parts, not-true, eqb-false, eq-eqb, cases_Bool}
+use Rattle.std.proofs.Common.{◌≡◌, ℕ, Bool, true, false, not, ◌&&◌, ◌⊎◌, sym, refl, ap, ◌∙◌, inl, inr}
+use Rattle.std.proofs.lemmas.Bool.{true≢false, and_parts, not-true, eqb-false}
 use Rattle.sets.specs.Sets.{bit, word_of}
 use Rattle.sets.proofs.Words.{bit_word}
-use Rattle.votes.specs.Leaders.{Led}
 use Rattle.votes.proofs.Leading.{none_in, some_in}
 use Rattle.votes.proofs.listening.is_led.Goals as goal
 

@@ -1,4 +1,4 @@
-use Rattle.std.proofs.Common.{◌≡◌, ℕ, length, refl, ap, ◌∙◌}
+use Rattle.std.proofs.Common.{ℕ, length, refl, ap, ◌∙◌}
 use Rattle.heads.specs.Rules.{of_ballots}
 use Rattle.votes.specs.Tables.{rewrite}
 use Rattle.votes.specs.Rounds.{Report, after}

@@ -1,4 +1,4 @@
-use Rattle.std.proofs.Common.{◌≡◌, ℕ, ◌<◌, Bool, List, length, get_or, set, sym, ap, ◌∙◌, ap₂, arith, rules}
+use Rattle.std.proofs.Common.{◌≡◌, ℕ, Bool, List, length, get_or, set, sym, ap, ◌∙◌, ap₂, arith, rules}
 use borrow.Author.Rules.{scaled_Fits}
 use Rattle.std.proofs.lemmas.Bool.{cond-true}
 use Rattle.heads.specs.declared.head.Ballots.{Ballots}

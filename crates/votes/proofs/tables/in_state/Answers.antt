@@ -1,5 +1,4 @@
-use Rattle.std.proofs.Common.{◌≡◌, sym, ap, ◌∙◌, arith}
-use Rattle.sets.specs.Sets.{word_of}
+use Rattle.std.proofs.Common.{◌≡◌, sym, ◌∙◌, arith}
 use Rattle.sets.proofs.Words.{word_none, word_with, word_without}
 use Rattle.votes.specs.Tables.{stands, in_state}
 use Rattle.votes.proofs.Records.{stands_read}

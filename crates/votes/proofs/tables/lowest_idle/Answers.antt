@@ -1,4 +1,4 @@
-use Rattle.std.proofs.Common.{◌≡◌, ℕ, not, ◌&&◌, ap, ◌∙◌}
+use Rattle.std.proofs.Common.{ℕ, not, ◌&&◌, ap, ◌∙◌}
 use Rattle.sets.specs.Sets.{bit, lowest}
 use Rattle.sets.proofs.Searches.{lowest_word}
 use Rattle.votes.specs.Tables.{lowest_idle}

@@ -1,4 +1,4 @@
-use Rattle.std.proofs.Common.{◌<◌, length, arith, rules}
+use Rattle.std.proofs.Common.{◌<◌, length, rules}
 use Rattle.votes.proofs.stages.Roll.enroll.Goals as goal
 
 pub offset_bounds-table-self : goal.offset_bounds-table-self

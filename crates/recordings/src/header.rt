@@ -6,6 +6,8 @@ use crate::bytes::{is_marked, read_u16};
 use crate::faults::RecordFault;
 use crate::kinds::{BallotKind, Header, VoteKind};
 use ballots::Coded;
+use driving::begin;
+use heads::fitted::Fitted;
 use heads::head::Head;
 use votes::refusals::ballot_of;
 use votes::stages::{Roll, Vote};
@@ -71,7 +73,7 @@ fn enroll_all<B: Coded>(bytes: &[u8], n: usize, table: &mut [Head<B>]) -> Result
 }
 
 // The vote of the n heads whose codes follow the first five bytes.
-pub(crate) fn start<B: Coded, V: Drop>(
+pub(crate) fn start<B: Coded, V: Fitted<B> + Drop>(
     method: V,
     bytes: &[u8],
     n: usize,
@@ -83,5 +85,5 @@ pub(crate) fn start<B: Coded, V: Drop>(
     if bytes.len() < 5 + 2 * n {
         return Err(RecordFault::Ends);
     }
-    Ok(enroll_all(bytes, n, table)?.begin(method)?)
+    Ok(begin::<B, V>(enroll_all(bytes, n, table)?, method)?)
 }

@@ -10,8 +10,8 @@ use crate::rounds::play_rounds;
 use ballots::Coded;
 use ballots::kinds::{Recipe, Ticket};
 use heads::bitwise::Bitwise;
+use heads::fitted::Fitted;
 use heads::head::{Ballots, Head, Prefix, State};
-use heads::method::Method;
 use heads::short::Short;
 use heads::split::Split;
 use std::alloc::{AllocError, Global};
@@ -41,7 +41,7 @@ fn outcomes<B: Coded>(heap: Global, table: &[Head<B>]) -> Result<Vec<Outcome>, A
 
 // Plays the file on a table and a list of words, both of n; the figures of the rounds heard go into rounds.
 // The answer is the fault that ended it.
-fn play_table<B: Coded, V: Method<B> + Drop>(
+fn play_table<B: Coded, V: Fitted<B> + Drop>(
     method: V,
     bytes: &[u8],
     n: usize,
@@ -84,7 +84,7 @@ fn vacant_table<B: Coded>(heap: Global, n: usize) -> Result<Vec<Head<B>>, AllocE
 }
 
 // Plays the file of a vote of n heads by one method, with ballots of one kind.
-fn play_as<B: Coded, V: Method<B> + Drop>(
+fn play_as<B: Coded, V: Fitted<B> + Drop>(
     heap: Global,
     method: V,
     bytes: &[u8],

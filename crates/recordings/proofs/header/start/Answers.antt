@@ -23,7 +23,7 @@ unfolding codes_breach
 returns g c =
     let whole = le-ltb _ _ c.if-bytes-n.false in
     let e = c.in_ok-enroll_all.ensures in
-    let both = unless_done _ (begun_as c.in_ok-begin.field-0) _ _ c.in_ok-begin.ensures in (
+    let both = unless_done _ (begun_as c.in_ok-begin.field-0) _ _ c.in_ok-begin.ensures.answer in (
       ap (λ (b : Begun g.row.V.Denot). b.n) both.1 ∙ e.0,
       ap (λ (b : Begun g.row.V.Denot). b.heard) both.1,
       rw whole e.1,

@@ -16,14 +16,18 @@ mod tests {
     use heads::method::Method;
     use heads::short::Short;
     use heads::split::Split;
+    use listings::page::list_vote;
     use managers::rotation::Rotation;
     use parts::channel::Channel;
     use parts::detector::Detector;
     use parts::manager::Manager;
     use parts::spells::{Spell, Spells};
+    use recordings::listing::Outcome;
+    use recordings::slices::{HEADS, ROUNDS};
+    use std::alloc::AllocError;
     use std::test::Fail;
     use votes::faults::{Refused, VoteFault};
-    use votes::stages::{HeardRound, Roll, Vote};
+    use votes::stages::{Figures, HeardRound, Roll, Vote};
 
     // A head as it is enrolled.
     fn fresh<B: Copy>(ballot: B) -> Head<B> {
@@ -198,6 +202,35 @@ mod tests {
             },
             None => Err(Fail::new("no ballot")),
         }
+    }
+
+    // A recording of one round of a short vote, in which both heads send and hear each other, is listed on a page of the
+    // caller's; a page that is a byte too short has no room for it.
+    #[test]
+    fn a_recording_is_listed_on_a_page(rt: HostRuntime) -> Result<(), AllocError> {
+        let bytes = [
+            86, 72, 1, 1, 2, 41, 0, 38, 0, 82, 68, 3, 0, 0, 0, 0, 0, 0, 0, 0, 0, 0, 0, 0, 0, 0, 0,
+            0, 0, 0, 0, 0, 0, 0, 0, 3, 0, 0, 0, 0, 0, 0, 0, 3, 0, 0, 0, 0, 0, 0, 0,
+        ];
+        let none = Figures {
+            round: 0,
+            senders: 0,
+            alarms: 0,
+            decided: 0,
+            running: 0,
+        };
+        let mut rounds = vec![in rt.alloc(); none; ROUNDS]?;
+        let mut heads = [Outcome::Running; HEADS];
+        let mut page = [0u8; 40];
+        let listed = list_vote(&bytes, rounds.as_mut_slice(), &mut heads, &mut page);
+        let length = listed.unwrap_or(0);
+        assert_eq!(rt; length, 28);
+        let text: &[u8] = b"R 1 2 0 0 2\nH 0 r -\nH 1 r -\n";
+        let shown = &page[0..28];
+        assert!(rt; shown == text, "another listing");
+        let short = list_vote(&bytes, rounds.as_mut_slice(), &mut heads, &mut page[0..27]);
+        assert!(rt; short.is_err(), "room where there is none");
+        Ok(())
     }
 
     // A short vote that is driven by piled layers: in rounds 1 and 2 the channel is dead and all heads are alarmed; in

@@ -1,2 +1,4 @@
 pub mod Bytes
 pub mod Files
+pub mod Rooms
+pub mod Slices

@@ -20,3 +20,7 @@ pub struct FileFault {
     pub byte: usize,
     pub fault: RecordFault,
 }
+
+// The slices that a call was given are too short.
+#[derive(Clone, Copy)]
+pub struct NoRoom;

@@ -8,3 +8,4 @@ pub mod listing;
 pub mod play;
 mod refusals;
 mod rounds;
+pub mod slices;

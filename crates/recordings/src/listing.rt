@@ -16,3 +16,11 @@ pub struct Listing {
     pub rounds: Vec<Figures>,
     pub ending: Result<Vec<Outcome>, FileFault>,
 }
+
+// How many rounds were heard, and then how many heads there are, or the fault that ended the playing. The figures of
+// the rounds and the outcomes of the heads stand at the front of the caller's slices.
+#[derive(Clone, Copy)]
+pub struct Summary {
+    pub rounds: usize,
+    pub ending: Result<usize, FileFault>,
+}

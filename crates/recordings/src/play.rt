@@ -18,7 +18,7 @@ use std::alloc::{AllocError, Global};
 use votes::stages::Figures;
 
 // How a head stands at the end.
-fn outcome<B: Coded>(h: Head<B>) -> Outcome
+pub(crate) fn outcome<B: Coded>(h: Head<B>) -> Outcome
     ensures { result ≡ outcome_of B.encoded h }
 {
     match h.state {

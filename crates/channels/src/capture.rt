@@ -48,7 +48,7 @@ fn filled_up(positions: &[u16]) -> [u16; 64]
 impl CaptureChannel {
     // Of 1 to 64 heads by their positions, 0 to 999 each; heads past them stand at 0.
     pub fn new(positions: &[u16]) -> Result<CaptureChannel, PartFault>
-        ensures { result ≡ (if placed positions.entry.now then Ok (record { positions = filled_up positions.entry.now }) else Err Unfit) }
+        ensures { result ≡ (if placed positions.now then Ok (record { positions = filled_up positions.now }) else Err Unfit) }
     {
         let n = positions.len();
         if n < 1 || n > 64 || !all_placed(positions) {

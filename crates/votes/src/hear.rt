@@ -38,7 +38,7 @@ fn hearing_breach<B: Copy, V: Method<B>>(
 ) -> Option<VoteFault>
     requires { n ≤ 64 }
     ensures accepted { IfNone result ((round ≤ 10000) × (n ≤ length table.now) × (length words.now ≡ n)) }
-    ensures value { fault_breach result ≡ hear_breach V.Method.scheme n round senders table.now (record { words = words.entry.now; alarms = alarms; stops = stops }) }
+    ensures value { fault_breach result ≡ hear_breach V.Method.scheme n round senders table.now (record { words = words.now; alarms = alarms; stops = stops }) }
 {
     if table.len() < n {
         return Some(VoteFault::ShortTable);
@@ -67,8 +67,8 @@ impl<V: Drop> OpenRound<V> {
     ) -> Result<HeardRound<V>, Refused<OpenRound<V>>>
     where
         V: Method<B>,
-        ensures answer { hear_answer result ≡ heard B.Ballot.earlier V.Method.scheme self table.old (record { words = words.entry.now; alarms = alarms; stops = stops }) }
-        ensures table { table.new ≡ heard_table B.Ballot.earlier V.Method.scheme self table.old (record { words = words.entry.now; alarms = alarms; stops = stops }) }
+        ensures answer { hear_answer result ≡ heard B.Ballot.earlier V.Method.scheme self table.old (record { words = words.now; alarms = alarms; stops = stops }) }
+        ensures table { table.new ≡ heard_table B.Ballot.earlier V.Method.scheme self table.old (record { words = words.now; alarms = alarms; stops = stops }) }
     {
         let round = self.heard + 1;
         if let Some(fault) = hearing_breach(

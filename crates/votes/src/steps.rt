@@ -116,7 +116,7 @@ fn step_all<B: Copy, V: Method<B>>(
     stops: u64,
 )
     requires { length words.now ≤ length table.old }
-    ensures { table.new ≡ rewrite (take_at V.Method.scheme senders round (record { words = words.entry.now; alarms = alarms; stops = stops })) (length words.entry.now) table.old }
+    ensures { table.new ≡ rewrite (take_at V.Method.scheme senders round (record { words = words.now; alarms = alarms; stops = stops })) (length words.now) table.old }
 {
     for i in 0..words.len() {
         let h = table[i];
@@ -144,7 +144,7 @@ pub(crate) fn advance<B: Ballot, V: Method<B>>(
     stops: u64,
 )
     requires { (length words.now ≡ n) × ((n ≤ length table.old) × (n ≤ 64)) }
-    ensures { table.new ≡ after B.earlier V.Method.scheme n senders round table.old (record { words = words.entry.now; alarms = alarms; stops = stops }) }
+    ensures { table.new ≡ after B.earlier V.Method.scheme n senders round table.old (record { words = words.now; alarms = alarms; stops = stops }) }
 {
     listen(method, senders, round, table, words, stops);
     step_all(method, senders, round, table, words, alarms, stops);

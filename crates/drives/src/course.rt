@@ -19,7 +19,7 @@ use parts::channel::Channel;
 use parts::detector::Detector;
 use parts::faults::PartFault;
 use parts::manager::Manager;
-use std::alloc::{AllocError, AllocFailed as NoRoom, Global};
+use std::alloc::{AllocError, AllocFailed, Global};
 use votes::faults::{Refusal, Refused, VoteFault};
 use votes::refusals::ballot_of;
 use votes::stages::{Figures, HeardRound, Roll, Standing, Vote};
@@ -50,12 +50,12 @@ pub struct Course {
 #[derive(Clone, Copy)]
 enum Halt {
     Refused(Refusal),
-    Memory,
+    Memory(AllocError),
 }
 
-impl<T: Drop> From<NoRoom<T>> for Halt {
-    fn from(_e: NoRoom<T>) -> Halt {
-        Halt::Memory
+impl<T: Drop> From<AllocFailed<T>> for Halt {
+    fn from(e: AllocFailed<T>) -> Halt {
+        Halt::Memory(e.into())
     }
 }
 
@@ -276,7 +276,7 @@ pub(crate) fn follow(heap: Global, plan: &Plan<'_>) -> Result<Course, AllocError
     };
     match course.take(plan) {
         Ok(()) => Ok(course),
-        Err(Halt::Memory) => Err(AllocError),
+        Err(Halt::Memory(e)) => Err(e),
         Err(Halt::Refused(refusal)) => {
             course.ending = Ending::Refused(refusal);
             Ok(course)

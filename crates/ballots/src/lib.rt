@@ -25,17 +25,14 @@ pub trait Ballot: Copy {
 
 // A ballot with a code of W bits, and the way back from its code.
 pub trait Coded: Ballot {
+    // The width.
     const W: u32;
 
-    ghost width: { ℕ };
+    ghost W: { ℕ };
 
     ghost encoded: { Self → ℕ };
 
     ghost decoded: { ℕ → Self };
-
-    // The width W.
-    fn bits() -> u32
-        ensures value { result ≡ width };
 
     fn code(&self) -> u16
         ensures { result ≡ encoded self.now };
@@ -44,7 +41,7 @@ pub trait Coded: Ballot {
     fn from_code(code: u16) -> Self
         ensures { result ≡ decoded code };
 
-    ghost coding: { Coding width encoded decoded };
+    ghost coding: { Coding W encoded decoded };
 }
 
 // The ballot that has the code, or a refusal where none has it.

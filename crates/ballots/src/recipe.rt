@@ -40,7 +40,7 @@ impl Ballot for Recipe {
 impl Coded for Recipe {
     const W: u32 = 12;
 
-    ghost width = { 12 };
+    ghost W = { 12 };
 
     ghost encoded = { λ b. b.number };
 
@@ -52,10 +52,6 @@ impl Coded for Recipe {
       below = λ b. omega arith;
       back = λ b. same_recipe (recipe b.number) b (omega arith);
     } };
-
-    fn bits() -> u32 {
-        Self::W
-    }
 
     fn code(&self) -> u16 {
         self.number

@@ -42,7 +42,7 @@ impl Ballot for Ticket {
 impl Coded for Ticket {
     const W: u32 = 10;
 
-    ghost width = { 10 };
+    ghost W = { 10 };
 
     ghost encoded = { λ b. b.grade * 64 + b.tank };
 
@@ -54,10 +54,6 @@ impl Coded for Ticket {
       below = λ b. omega arith;
       back = λ b. let code = b.grade * 64 + b.tank in same_ticket (ticket (code / 64) code) b (omega arith) (omega arith);
     } };
-
-    fn bits() -> u32 {
-        Self::W
-    }
 
     fn code(&self) -> u16 {
         self.grade as u16 * 64 + self.tank as u16

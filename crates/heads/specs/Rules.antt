@@ -5,10 +5,14 @@ use Rattle.sets.specs.Sets.{bit}
 use Rattle.ballots.specs.Order.{Coding}
 use Rattle.heads.specs.declared.alarms.Class.{Class}
 use Rattle.heads.specs.declared.alarms.Class.TheVariants.{Zero, Majority}
+use Rattle.heads.specs.declared.bitwise.Place.{Place}
+use Rattle.heads.specs.declared.bitwise.Place.TheVariants as place
 use Rattle.heads.specs.declared.head.Ballots.{Ballots}
 use Rattle.heads.specs.declared.head.Head.{Head}
 use Rattle.heads.specs.declared.head.Heard.{Heard}
-use Rattle.heads.specs.declared.head.State.TheVariants.{Decided, Stopped}
+use Rattle.heads.specs.declared.head.State.TheVariants.{Running, Decided, Stopped}
+use Rattle.heads.specs.Alarms.{due_by}
+use Rattle.heads.specs.Heard.{no_ballots}
 
 -- the votes; those on codes have the width W of a code, a ballot's code and the way back
 pub data Scheme (B : Type 0) : Type 0 where
@@ -25,6 +29,11 @@ odd round = round % 2 == 1
 abbrev pub in_cycle : ℕ → ℕ → ℕ
 in_cycle w round = (round - 1) % (w + 2)
 
+-- what the round is for
+abbrev pub place_of : ℕ → ℕ → Place
+place_of w round =
+    cond (in_cycle w round == 0) place.Ballots (cond (nat_le (in_cycle w round) w) (place.Bit (in_cycle w round)) place.Vetoes)
+
 -- the rounds in which heads with a turn send their estimate
 abbrev pub of_ballots : {B : Type 0} → Scheme B → ℕ → Bool
 of_ballots short round = odd round
@@ -33,7 +42,7 @@ of_ballots (split w code back) round = false
 
 -- ---- alarms: c senders, of which a head heard t
 
--- the class of detector that a vote asks for: the one whose alarms are due where the vote's are
+-- the class of the detector whose due alarms a vote asks for
 abbrev pub class_of : {B : Type 0} → Scheme B → Class
 class_of short = Majority
 class_of (bitwise w code) = Zero
@@ -42,9 +51,7 @@ class_of (split w code back) = Zero
 -- an alarm is due at half of the messages or fewer in a short vote, and at none of them in the others;
 -- never in a silent round
 abbrev pub due : {B : Type 0} → Scheme B → ℕ → ℕ → Bool
-due short c t = nat_lt 0 c && nat_le (2 * t) c
-due (bitwise w code) c t = nat_lt 0 c && t == 0
-due (split w code back) c t = nat_lt 0 c && t == 0
+due s c t = due_by (class_of s) c t
 
 -- an alarm is false where every message was heard
 abbrev pub false_alarm : ℕ → ℕ → Bool
@@ -81,6 +88,10 @@ says (split w code back) round turn h =
     begins w (code h.first) h.prefix.bits h.prefix.length (cond (odd round) 0 1)
 
 -- ---- what a running head keeps
+
+-- a head that runs, with its first ballot as its estimate
+abbrev pub fresh : {B : Type 0} → B → Head B
+fresh b = record { state = Running; first = b; estimate = b; ballots = no_ballots; flag = true; prefix = record { bits = 0; length = 0 }; noise = false }
 
 abbrev pub decided : {B : Type 0} → Head B → Head B
 decided h = record { state = Decided; first = h.first; estimate = h.estimate; ballots = h.ballots; flag = h.flag; prefix = h.prefix; noise = h.noise }

@@ -36,10 +36,7 @@ pub fn ballots_heard<B: Ballot>(heads: &[Head<B>], word: u64) -> Ballots<B>
     ensures least { IsLeast B.earlier heads.now word 64 result.least }
     ensures differ { Decides result.differ (TwoHeard heads.now word 64) }
 {
-    let mut heard = Ballots {
-        least: None,
-        differ: false,
-    };
+    let mut heard = Ballots::none();
     let mut from = 0;
     while let Some(i) = sets::next(word, from) {
         if i >= heads.len() {

@@ -1,7 +1,8 @@
 // The interface of a vote: what one head says and keeps, by its record and what it heard alone.
 ghost use Rattle.std.specs.Prelude.{◌≡◌, ℕ};
-ghost use Rattle.heads.specs.Rules.{Scheme, of_ballots, due, strict, says, keeps};
+ghost use Rattle.heads.specs.Rules.{Scheme, of_ballots, class_of, due, strict, says, keeps};
 
+use crate::alarms::Class;
 use crate::head::{Head, Heard};
 
 // One of the votes, over ballots B.
@@ -13,9 +14,16 @@ pub trait Method<B>: Copy {
     fn of_ballots(self, round: u32) -> bool
         ensures { result ≡ of_ballots scheme round };
 
+    // The class of the collision detector whose due alarms the vote asks for.
+    fn class(self) -> Class
+        ensures { result ≡ class_of scheme };
+
     // Whether an alarm is due at a head that heard t of c messages.
-    fn due(self, c: u32, t: u32) -> bool
-        ensures { result ≡ due scheme c t };
+    final fn due(self, c: u32, t: u32) -> bool
+        ensures { result ≡ due scheme c t }
+    {
+        self.class().due(c, t)
+    }
 
     // Whether a false alarm is refused.
     fn strict(self) -> bool

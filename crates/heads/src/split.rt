@@ -3,9 +3,9 @@ ghost use Rattle.std.specs.Prelude.{◌≡◌, if◌then◌else◌};
 ghost use Rattle.heads.specs.Rules.{begins, grown, says, keeps};
 ghost use Rattle.heads.specs.Rules.Scheme.{split};
 
+use crate::alarms::Class;
 use crate::head::{Head, Heard, Prefix, State};
 use crate::method::Method;
-use crate::short::noise;
 use ballots::Coded;
 
 #[derive(Clone, Copy)]
@@ -13,18 +13,18 @@ pub struct Split;
 
 // Whether the ballot's code begins with the prefix and the bit.
 fn starts_with<B: Coded>(ballot: B, prefix: Prefix, bit: bool) -> bool
-    ensures { result ≡ begins B.width (B.encoded ballot) prefix.bits prefix.length (if bit then 1 else 0) }
+    ensures { result ≡ begins B.W (B.encoded ballot) prefix.bits prefix.length (if bit then 1 else 0) }
 {
-    let shift = (B::bits() - 1).saturating_sub(prefix.length as u32);
+    let shift = (B::W - 1).saturating_sub(prefix.length as u32);
     (ballot.code() as u32) >> shift == 2 * prefix.bits as u32 + bit as u32
 }
 
 // The head with one bit more in its prefix, which is decided once it has W bits.
 fn grow<B: Coded>(head: Head<B>, bit: bool) -> Head<B>
-    ensures { result ≡ grown B.width B.decoded head (if bit then 1 else 0) }
+    ensures { result ≡ grown B.W B.decoded head (if bit then 1 else 0) }
 {
-    let bits = ((2 * head.prefix.bits as u32 + bit as u32) % (1 << B::bits())) as u16;
-    if head.prefix.length as u32 + 1 >= B::bits() {
+    let bits = ((2 * head.prefix.bits as u32 + bit as u32) % (1 << B::W)) as u16;
+    if head.prefix.length as u32 + 1 >= B::W {
         return Head {
             state: State::Decided,
             estimate: B::from_code(bits),
@@ -43,14 +43,14 @@ fn grow<B: Coded>(head: Head<B>, bit: bool) -> Head<B>
 }
 
 impl<B: Coded> Method<B> for Split {
-    ghost scheme = { split B.Coded.width B.Coded.encoded B.Coded.decoded };
+    ghost scheme = { split B.Coded.W B.Coded.encoded B.Coded.decoded };
 
     fn of_ballots(self, round: u32) -> bool {
         false
     }
 
-    fn due(self, c: u32, t: u32) -> bool {
-        c > 0 && t == 0
+    fn class(self) -> Class {
+        Class::Zero
     }
 
     fn strict(self) -> bool {
@@ -58,27 +58,26 @@ impl<B: Coded> Method<B> for Split {
     }
 
     fn says(self, round: u32, turn: bool, head: Head<B>) -> bool
-        ensures { result ≡ says (split B.Coded.width B.Coded.encoded B.Coded.decoded) round turn head }
+        ensures { result ≡ says (split B.Coded.W B.Coded.encoded B.Coded.decoded) round turn head }
     {
         starts_with(head.first, head.prefix, round % 2 != 1)
     }
 
     fn keeps(self, round: u32, heard: Heard<B>, head: Head<B>) -> Head<B>
-        ensures { result ≡ keeps (split B.Coded.width B.Coded.encoded B.Coded.decoded) round heard head }
+        ensures { result ≡ keeps (split B.Coded.W B.Coded.encoded B.Coded.decoded) round heard head }
     {
         if round % 2 == 1 {
-            return Head {
-                noise: noise(heard),
+            Head {
+                noise: heard.is_noisy(),
                 ..head
-            };
-        }
-        if head.noise {
+            }
+        } else if head.noise {
             grow(head, false)
-        } else if noise(heard) {
+        } else if heard.is_noisy() {
             grow(head, true)
         } else {
             Head {
-                prefix: Prefix { bits: 0, length: 0 },
+                prefix: Prefix::default(),
                 noise: false,
                 ..head
             }

@@ -8,7 +8,7 @@ use Rattle.heads.proofs.Walks.{below_none, walk_more, walk_all, walk_past, right
 use Rattle.heads.proofs.ballots_heard.ballots_heard.Goals as goal
 
 pub loop-i-init : goal.loop-i-init
-loop-i-init g c = (omega arith, sym (below_none _ _ _))
+loop-i-init g c = (omega arith, c.none-heard.ensures ∙ sym (below_none _ _ _))
 
 pub loop-i-smaller : goal.loop-i-smaller
 loop-i-smaller g c =

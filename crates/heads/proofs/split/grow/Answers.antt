@@ -11,4 +11,4 @@ narrow x w h =
 pub overflow_cast-bits-3 : goal.overflow_cast-bits-3
 overflow_cast-bits-3 g c =
     let coding = g.met.B.Coded.coding in
-    record { fits = narrow _ c.bits.result (omega (arith, coding.most, c.bits.ensures.value)) }
+    record { fits = narrow _ c.W.result (omega (arith, coding.most, c.W.ensures)) }

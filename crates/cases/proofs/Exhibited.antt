@@ -9,7 +9,7 @@ use Rattle.ballots.specs.Faults.{Breach}
 use Rattle.ballots.specs.Kinds.{recipe}
 use Rattle.heads.specs.declared.head.Head.{Head}
 use Rattle.heads.specs.Heard.{ballots_below}
-use Rattle.heads.specs.Rules.{Scheme}
+use Rattle.heads.specs.Rules.{Scheme, fresh}
 use Rattle.parts.specs.Spells.{Shape, spans_below}
 use Rattle.channels.specs.Clear.{clear}
 use Rattle.detectors.specs.Exact.{counting}
@@ -18,7 +18,7 @@ use Rattle.managers.specs.Turns.{lowest_turns}
 use Rattle.votes.specs.declared.stages.Standing.{Standing}
 use Rattle.votes.specs.Tables.{in_state, lowest_idle, rewrite_from}
 use Rattle.votes.specs.Rounds.{senders, report_breach, after}
-use Rattle.votes.specs.Calls.{fresh, hear_breach, standing_as}
+use Rattle.votes.specs.Calls.{hear_breach, standing_as}
 use Rattle.runs.specs.Driving.{Parts, words, alarms, early_breach}
 use Rattle.runs.specs.Chains.{voting, Calls, none, Begins}
 use Rattle.cases.specs.Plays.{drives, standings, begun}

@@ -4,11 +4,11 @@ use Rattle.std.specs.Prelude.{◌≡◌, ℕ, ◌-◌, List, [], ◌∷◌, map}
 use Rattle.ballots.specs.declared.kinds.Recipe.{Recipe}
 use Rattle.ballots.specs.Kinds.{recipe}
 use Rattle.heads.specs.declared.head.Head.{Head}
-use Rattle.heads.specs.Rules.{Scheme, calm_bound}
+use Rattle.heads.specs.Rules.{Scheme, calm_bound, fresh}
 use Rattle.votes.specs.declared.stages.Vote.{Vote}
 use Rattle.votes.specs.declared.stages.Standing.{Standing}
 use Rattle.votes.specs.declared.stages.Standing.TheVariants.{Running, Stopped, Decided}
-use Rattle.votes.specs.Calls.{fresh, standing_as}
+use Rattle.votes.specs.Calls.{standing_as}
 use Rattle.runs.specs.Chains.{Stage, voting, Calls, Begins}
 use Rattle.cases.specs.Starred.{short_vote, bit_vote, split_vote}
 use Rattle.ballots.specs.contracts.recipe.RecipeBallot.TheImpl.{ghosts as recipeOrder}

@@ -3,10 +3,10 @@ use Rattle.std.specs.Prelude.{ℕ, zero, suc, ◌+◌, Bool, List, [], ◌∷◌
 use Rattle.sets.specs.Search.{or_else}
 use Rattle.ballots.specs.Faults.{Breach}
 use Rattle.heads.specs.declared.head.Head.{Head}
-use Rattle.heads.specs.Rules.{Scheme}
+use Rattle.heads.specs.Rules.{Scheme, fresh}
 use Rattle.votes.specs.declared.stages.Standing.{Standing}
 use Rattle.votes.specs.Rounds.{Report, senders, after}
-use Rattle.votes.specs.Calls.{fresh, open_breach, hear_breach, standing_as}
+use Rattle.votes.specs.Calls.{open_breach, hear_breach, standing_as}
 use Rattle.runs.specs.Driving.{Parts, Driving, sending, report, drive_breach}
 
 -- the turns of a round, and its report

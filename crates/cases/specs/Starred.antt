@@ -5,11 +5,11 @@ use Rattle.ballots.specs.declared.kinds.Recipe.{Recipe}
 use Rattle.ballots.specs.Faults.{Breach, at_head}
 use Rattle.ballots.specs.Kinds.{recipe, ticket}
 use Rattle.heads.specs.Heard.{ballots_of}
-use Rattle.heads.specs.Rules.{Scheme}
+use Rattle.heads.specs.Rules.{Scheme, fresh}
 use Rattle.heads.specs.Rules.Scheme.{short, bitwise, split}
 use Rattle.votes.specs.declared.stages.Standing.{Standing}
 use Rattle.votes.specs.declared.stages.Standing.TheVariants.{Running, Stopped, Decided}
-use Rattle.votes.specs.Calls.{fresh}
+
 use Rattle.channels.specs.Clear.{clear}
 use Rattle.detectors.specs.Exact.{counting}
 use Rattle.managers.specs.Turns.{lowest_turns, rotation_turns}
@@ -29,10 +29,10 @@ abbrev pub short_vote : Scheme Recipe
 short_vote = short
 
 abbrev pub bit_vote : Scheme Recipe
-bit_vote = bitwise recipeCode.width recipeCode.encoded
+bit_vote = bitwise recipeCode.W recipeCode.encoded
 
 abbrev pub split_vote : Scheme Recipe
-split_vote = split recipeCode.width recipeCode.encoded recipeCode.decoded
+split_vote = split recipeCode.W recipeCode.encoded recipeCode.decoded
 
 -- a vote of recipes after those rounds: how its heads stand, and their estimates
 abbrev pub stand : Scheme Recipe → ℕ → List Recipe → List Round → Result (List (Standing ℕ)) Breach

@@ -11,7 +11,8 @@ use Rattle.votes.specs.declared.faults.VoteFault.TheVariants.{Ballot}
 use Rattle.votes.specs.declared.stages.Roll.{Roll}
 use Rattle.votes.specs.Faults.{vote_breach, ballot_from}
 use Rattle.votes.specs.Tables.{rewrite, rewrite_from}
-use Rattle.votes.specs.Calls.{Answer, full, fresh, enrolled, enrolled_table}
+use Rattle.heads.specs.Rules.{fresh}
+use Rattle.votes.specs.Calls.{Answer, full, enrolled, enrolled_table}
 use Rattle.votes.specs.Calls.Answer.{done, refused}
 use Rattle.votes.proofs.Rewrites.{rewrite_more}
 

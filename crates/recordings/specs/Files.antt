@@ -6,7 +6,7 @@ use Rattle.ballots.specs.Faults.{Breach, numbered}
 use Rattle.heads.specs.declared.head.Head.{Head}
 use Rattle.heads.specs.declared.head.State.{State}
 use Rattle.heads.specs.declared.head.State.TheVariants.{Running, Decided, Stopped}
-use Rattle.heads.specs.Rules.{Scheme}
+use Rattle.heads.specs.Rules.{Scheme, fresh}
 use Rattle.heads.specs.Rules.Scheme.{short, bitwise, split}
 use Rattle.ballots.specs.contracts.recipe.RecipeBallot.TheImpl.{ghosts as recipeOrder}
 use Rattle.ballots.specs.contracts.recipe.RecipeCoded.TheImpl.{ghosts as recipeCode}
@@ -15,7 +15,7 @@ use Rattle.ballots.specs.contracts.ticket.TicketCoded.TheImpl.{ghosts as ticketC
 use Rattle.votes.specs.declared.stages.Figures.{Figures}
 use Rattle.votes.specs.Faults.{vote_breach}
 use Rattle.votes.specs.Rounds.{Report, senders, after}
-use Rattle.votes.specs.Calls.{Answer, Begun, begun_as, unless, fresh, open_breach, hear_breach, figures_of}
+use Rattle.votes.specs.Calls.{Answer, Begun, begun_as, unless, open_breach, hear_breach, figures_of}
 use Rattle.votes.specs.Calls.Answer.{done, refused}
 use Rattle.votes.specs.declared.stages.HeardRound.{HeardRound}
 use Rattle.votes.specs.declared.stages.Roll.{Roll}
@@ -216,9 +216,9 @@ scheme_of vote.Split w encoded decoded = split w encoded decoded
 
 unfoldable pub played_kind : BallotKind → VoteKind → ℕ → List ℕ → Played
 played_kind kind.Recipe v n bytes =
-    played_as recipeOrder.earlier recipeCode.encoded recipeCode.decoded (scheme_of v recipeCode.width recipeCode.encoded recipeCode.decoded) n bytes
+    played_as recipeOrder.earlier recipeCode.encoded recipeCode.decoded (scheme_of v recipeCode.W recipeCode.encoded recipeCode.decoded) n bytes
 played_kind kind.Ticket v n bytes =
-    played_as ticketOrder.earlier ticketCode.encoded ticketCode.decoded (scheme_of v ticketCode.width ticketCode.encoded ticketCode.decoded) n bytes
+    played_as ticketOrder.earlier ticketCode.encoded ticketCode.decoded (scheme_of v ticketCode.W ticketCode.encoded ticketCode.decoded) n bytes
 
 abbrev pub unless_header : Option Breach → Played → Played
 unless_header (Some breach) p = record { rounds = []; ending = Err (record { byte = 0; breach = breach }) }

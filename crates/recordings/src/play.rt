@@ -127,7 +127,7 @@ fn play_kind<B: Coded>(
     n: usize,
 ) -> Result<Listing, AllocError>
     requires { (1 ≤ n) × ((n ≤ 64) × (5 ≤ length bytes.now)) }
-    ensures { IfOk result (λ l. listing_as l ≡ played_as B.Ballot.earlier B.encoded B.decoded (scheme_of vote B.width B.encoded B.decoded) n bytes.now) }
+    ensures { IfOk result (λ l. listing_as l ≡ played_as B.Ballot.earlier B.encoded B.decoded (scheme_of vote B.W B.encoded B.decoded) n bytes.now) }
 {
     match vote {
         VoteKind::Short => play_as::<B, Short>(heap, Short, bytes, n),

@@ -143,7 +143,7 @@ fn play_kind<B: Coded>(
 ) -> Summary
     requires heads { (1 ≤ n) × ((n ≤ 64) × ((length table.old ≡ n) × (64 ≤ length heads.old))) }
     requires file { (5 ≤ length bytes.now) × (10000 ≤ length rounds.old) }
-    ensures { Told (played_as B.Ballot.earlier B.encoded B.decoded (scheme_of vote B.width B.encoded B.decoded) n bytes.now) result rounds.old rounds.new heads.old heads.new }
+    ensures { Told (played_as B.Ballot.earlier B.encoded B.decoded (scheme_of vote B.W B.encoded B.decoded) n bytes.now) result rounds.old rounds.new heads.old heads.new }
 {
     match vote {
         VoteKind::Short => play_as::<B, Short>(Short, bytes, n, table, rounds, heads),

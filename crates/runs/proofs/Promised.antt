@@ -6,9 +6,9 @@ use Rattle.ballots.specs.Order.{Total}
 use Rattle.heads.specs.declared.head.Head.{Head}
 use Rattle.heads.specs.declared.head.State.{State}
 use Rattle.heads.specs.declared.head.State.TheVariants.{Running, Decided, Stopped}
-use Rattle.heads.specs.Rules.{Scheme, Fit, calm_bound, stopped}
+use Rattle.heads.specs.Rules.{Scheme, Fit, calm_bound, stopped, fresh}
 use Rattle.votes.specs.declared.stages.Vote.{Vote}
-use Rattle.votes.specs.Calls.{fresh}
+
 use Rattle.runs.specs.Driving.{driving}
 use Rattle.runs.specs.Chains.{Stage, voting, rounds, Calls, Begins}
 use Rattle.runs.specs.Promise.{Steps, Promise}

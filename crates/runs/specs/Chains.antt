@@ -4,14 +4,14 @@ use Rattle.std.specs.Prelude.{◌≡◌, ℕ, ◌+◌, ◌<◌, ◌≤◌, Bool,
 use Rattle.std.specs.List.{slice_get}
 use Rattle.ballots.specs.Faults.{Breach}
 use Rattle.heads.specs.declared.head.Head.{Head}
-use Rattle.heads.specs.Rules.{Scheme}
+use Rattle.heads.specs.Rules.{Scheme, fresh}
 use Rattle.votes.specs.declared.faults.Refused.{Refused}
 use Rattle.votes.specs.declared.stages.Vote.{Vote}
 use Rattle.votes.specs.declared.stages.OpenRound.{OpenRound}
 use Rattle.votes.specs.declared.stages.HeardRound.{HeardRound}
 use Rattle.votes.specs.Tables.{running}
 use Rattle.votes.specs.Rounds.{Report}
-use Rattle.votes.specs.Calls.{begun_as, open_answer, opened, withdrawn, hear_breach, hear_answer, heard, heard_table, fresh}
+use Rattle.votes.specs.Calls.{begun_as, open_answer, opened, withdrawn, hear_breach, hear_answer, heard, heard_table}
 use Rattle.runs.specs.Calm.{Calm}
 use Rattle.runs.specs.Driving.{Parts, driving, drive_breach, drive_answer, driven, driven_table, turns, runners, sending, report}
 

@@ -7,7 +7,7 @@ use Rattle.heads.specs.declared.alarms.Class.TheVariants.{Majority}
 use Rattle.heads.specs.declared.head.Head.{Head}
 use Rattle.heads.specs.declared.head.Heard.{Heard}
 use Rattle.heads.specs.declared.head.State.TheVariants.{Running, Decided}
-use Rattle.heads.specs.Rules.{Scheme, Detecting, detecting, calmness, calm_bound}
+use Rattle.heads.specs.Rules.{Scheme, Detecting, detecting, calmness, calm_bound, fresh}
 use Rattle.heads.specs.Rules.Detecting.{majority_only, any_class, ever_quiet}
 use Rattle.heads.specs.Rules.Calmness.{one_turn}
 use Rattle.parts.specs.Channels as channels
@@ -16,7 +16,7 @@ use Rattle.parts.specs.Managers as managers
 use Rattle.votes.specs.declared.stages.Vote.{Vote}
 use Rattle.votes.specs.Tables.{lowest_idle}
 use Rattle.votes.specs.Rounds.{stepped}
-use Rattle.votes.specs.Calls.{fresh, short_table, word_count, at_lowest, rounds_spent, none_runs}
+use Rattle.votes.specs.Calls.{short_table, word_count, at_lowest, rounds_spent, none_runs}
 use Rattle.runs.specs.Calm.{Calm}
 use Rattle.runs.specs.Driving.{Parts, Driving, driving, round, runners, turns, sending, report, drive_breach}
 use Rattle.runs.specs.Chains.{Stage, voting, rounds, Calls, Begins}

@@ -7,8 +7,7 @@ use Rattle.ballots.specs.Faults.{Breach, numbered, in_round, at_head}
 use Rattle.heads.specs.declared.head.Head.{Head}
 use Rattle.heads.specs.declared.head.State.{State}
 use Rattle.heads.specs.declared.head.State.TheVariants.{Running, Decided, Stopped}
-use Rattle.heads.specs.Rules.{Scheme}
-use Rattle.heads.specs.Heard.{no_ballots}
+use Rattle.heads.specs.Rules.{Scheme, fresh}
 use Rattle.votes.specs.declared.faults.VoteFault.{VoteFault}
 use Rattle.votes.specs.declared.faults.VoteFault.TheVariants.{ShortTable}
 use Rattle.votes.specs.declared.faults.Refused.{Refused}
@@ -72,10 +71,6 @@ roll_answer (Err e) = refused (vote_breach e.fault) e.back
 -- 64 heads, or as many as the table has room for
 abbrev pub full : ℕ → ℕ → Bool
 full n room = nat_le 64 n || nat_le room n
-
--- a head that runs, with its first ballot as its estimate
-abbrev pub fresh : {B : Type 0} → B → Head B
-fresh b = record { state = Running; first = b; estimate = b; ballots = no_ballots; flag = true; prefix = record { bits = 0; length = 0 }; noise = false }
 
 abbrev pub enrolled : {B : Type 0} → Roll → List (Head B) → Answer ℕ Roll
 enrolled roll hs = cond (full roll.n (length hs)) (refused (numbered 2) roll) (done (roll.n + 1))

@@ -3,8 +3,9 @@ use Rattle.std.proofs.lemmas.Result.{err_from_is_err_and}
 use Rattle.sets.proofs.Searches.{left_start, left_more, left_found, left_all, when_true, when_false}
 use Rattle.ballots.specs.Faults.{numbered}
 use Rattle.heads.specs.declared.head.Head.{Head}
+use Rattle.heads.specs.Rules.{fresh}
 use Rattle.votes.specs.Tables.{rewrite}
-use Rattle.votes.specs.Calls.{fresh}
+
 use Rattle.votes.proofs.Rewrites.{rewrite_none}
 use Rattle.recordings.specs.Files.{record_breach, code_at, strange, enrolled_from, EnrolledOf}
 use Rattle.recordings.proofs.Enrolls.{decoded_ok, decoded_err, enrolled_done, enrolled_set, never_refused, same_done, written_more, written_all}

@@ -1,8 +1,9 @@
 use Rattle.std.proofs.Common.{◌≡◌}
 use Rattle.sets.specs.Search.{first}
 use Rattle.sets.proofs.Searches.{left}
+use Rattle.heads.specs.Rules.{fresh}
 use Rattle.votes.specs.Tables.{rewrite}
-use Rattle.votes.specs.Calls.{fresh}
+
 use Rattle.recordings.specs.Files.{code_at, strange}
 use Rattle.recordings.proofs.header.enroll_all.Given as goal
 

@@ -1,5 +1,5 @@
 -- The check of a report, head by head.
-use Rattle.std.proofs.Common.{◌≡◌, ℕ, ◌+◌, ◌<◌, Bool, true, false, not, ◌&&◌, List, get_or, is_some, Some, None, Option, sym, refl, ap, ◌∙◌, arith}
+use Rattle.std.proofs.Common.{◌≡◌, ℕ, ◌+◌, ◌<◌, true, false, not, ◌&&◌, List, get_or, is_err, Ok, Err, None, Option, Result, sym, refl, ap, ◌∙◌, arith}
 use Rattle.std.proofs.lemmas.Bool.{true≢false}
 use Rattle.sets.specs.Search.{or_else, first}
 use Rattle.sets.specs.Sets.{bit}
@@ -7,14 +7,15 @@ use Rattle.sets.proofs.Searches.{left, left_step, left_skip, left_all, when_fals
 use Rattle.ballots.specs.Faults.{Breach}
 use Rattle.heads.specs.Rules.{Scheme}
 use Rattle.votes.specs.declared.faults.VoteFault.{VoteFault}
+use Rattle.votes.specs.declared.round.Reception.{Reception}
 use Rattle.votes.specs.Rounds.{stranger, breach_of, breach_at}
-use Rattle.votes.specs.Calls.{fault_breach}
+use Rattle.votes.specs.Calls.{breach_in}
 
 -- the check of a head by what was read for it
-pub here : {B : Type 0} (s : Scheme B) (runners senders round : ℕ) (words : List ℕ) (alarms i word : ℕ) (runs alarm : Bool)
-    → word ≡ get_or words i 0 → alarm ≡ bit alarms i → runs ≡ bit runners i
-    → breach_at s runners senders round words alarms i ≡ breach_of s senders round runs word alarm i
-here s runners senders round words alarms i word runs alarm p q r = rw (p, q, r)
+pub here : {B : Type 0} (s : Scheme B) (runners senders round : ℕ) (words : List ℕ) (alarms i : ℕ) (r : Reception)
+    → r ≡ record { head = i; runs = bit runners i; word = get_or words i 0; alarm = bit alarms i }
+    → breach_at s runners senders round words alarms i ≡ breach_of s senders round r.runs r.word r.alarm i
+here s runners senders round words alarms i r e = rw e
 
 -- a word that has senders alone
 pub no_stranger : (senders round word i : ℕ) → ((j : ℕ) → j < 64 → (bit word j && not (bit senders j)) ≡ false)
@@ -25,10 +26,15 @@ no_stranger senders round word i none =
     f : ℕ → Option Breach
     f = stranger senders round word i
 
-some_first : (o : Option VoteFault) (b : Option Breach) → is_some o ≡ true → or_else (fault_breach o) b ≡ fault_breach o
-some_first (Some f) b e = refl
-some_first None b e = absurd (true≢false (sym e))
+some_first : {A : Type 0} (r : Result A VoteFault) (b : Option Breach) → is_err r ≡ true → or_else (breach_in r) b ≡ breach_in r
+some_first (Err f) b e = refl
+some_first (Ok a) b e = absurd (true≢false (sym e))
 
--- a search that finds what a call found
-pub left_fault : (w : Option Breach) (f : ℕ → Option Breach) (n i : ℕ) (o : Option VoteFault) → i < n → is_some o ≡ true → f i ≡ fault_breach o → w ≡ left f n i → w ≡ fault_breach o
-left_fault w f n i o h s e p = p ∙ left_step f n i h ∙ ap (λ x. or_else x (left f n (i + 1))) e ∙ some_first o (left f n (i + 1)) s
+-- a search that finds what a check found
+pub left_fault : {A : Type 0} (w : Option Breach) (f : ℕ → Option Breach) (n i : ℕ) (r : Result A VoteFault) → i < n → is_err r ≡ true → f i ≡ breach_in r → w ≡ left f n i → w ≡ breach_in r
+left_fault w f n i r h s e p = p ∙ left_step f n i h ∙ ap (λ x. or_else x (left f n (i + 1))) e ∙ some_first r (left f n (i + 1)) s
+
+-- a check that found nothing
+pub ok_is : (r : Result (Unit {0}) VoteFault) → is_err r ≡ false → r ≡ Ok tt
+ok_is (Ok tt) e = refl
+ok_is (Err f) e = absurd (true≢false e)

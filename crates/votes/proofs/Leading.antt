@@ -10,7 +10,7 @@ use Rattle.heads.specs.declared.head.Head.{Head}
 use Rattle.heads.specs.Heard.{estimate_at, ballots_of, From, IsLeast}
 use Rattle.heads.proofs.Walks.{Right, right}
 use Rattle.votes.specs.declared.leaders.Leaders.{Leaders}
-use Rattle.votes.specs.Leaders.{alike, holds, having, Leads, Led}
+use Rattle.votes.specs.Leaders.{alike, holds, having, Leads, LeadsIn, Led}
 
 abbrev pub as_ballots : {B : Type 0} → Option B → Bool → Ballots B
 as_ballots least differ = record { least = least; differ = differ }
@@ -147,6 +147,7 @@ module _ {B : Type 0} (earlier : B → B → Bool) (xs ys : List (Head B)) (same
     enrolled = k.enrolled;
   }
 
-  pub led_same : (n senders : ℕ) (o : Option (Leaders B)) → IfSome o (λ l. Leads earlier xs n senders l) → IfSome o (λ l. Leads earlier ys n senders l)
-  led_same n senders None k = tt
-  led_same n senders (Some l) k = leads_same n senders l k
+  pub led_same : length ys ≡ length xs → (n senders : ℕ) → n ≤ length xs → (o : Option (Leaders B))
+      → IfSome o (λ l. Leads earlier xs n senders l) → IfSome o (λ l. LeadsIn earlier ys l)
+  led_same long n senders low None k = tt
+  led_same long n senders low (Some l) k = (n, senders, omega (arith, long), leads_same n senders l k)

@@ -1,4 +1,5 @@
 pub mod Records
+pub mod Places
 pub mod Breaches
 pub mod Rewrites
 pub mod Rounds

@@ -1,5 +1,5 @@
 -- What each call answers, and what it leaves.
-use Rattle.std.specs.Prelude.{ℕ, ◌+◌, Bool, true, false, cond, not, ◌||◌, List, length, is_some, Some, None, Ok, Err, Option, Result, ◌==◌, nat_le, nat_lt, slice_set}
+use Rattle.std.specs.Prelude.{◌≡◌, ℕ, ◌+◌, Bool, true, false, cond, not, ◌||◌, List, length, is_some, Some, None, Ok, Err, Option, Result, ◌==◌, nat_le, nat_lt, slice_set}
 use Rattle.std.specs.List.{slice_get}
 use Rattle.sets.specs.Search.{when, or_else, first}
 use Rattle.sets.specs.Sets.{bit, count, lowest}
@@ -8,6 +8,7 @@ use Rattle.heads.specs.declared.head.Head.{Head}
 use Rattle.heads.specs.declared.head.State.{State}
 use Rattle.heads.specs.declared.head.State.TheVariants.{Running, Decided, Stopped}
 use Rattle.heads.specs.Rules.{Scheme, fresh}
+use Rattle.votes.specs.declared.enrolled.Enrolled.{Enrolled}
 use Rattle.votes.specs.declared.faults.VoteFault.{VoteFault}
 use Rattle.votes.specs.declared.faults.VoteFault.TheVariants.{ShortTable}
 use Rattle.votes.specs.declared.faults.Refused.{Refused}
@@ -32,15 +33,25 @@ abbrev pub unless : {A R : Type 0} → Option Breach → A → R → Answer A R
 unless (Some b) a back = refused b back
 unless None a back = done a
 
--- the rule that a fault breaks, if there is one
-abbrev pub fault_breach : Option VoteFault → Option Breach
-fault_breach (Some fault) = Some (vote_breach fault)
-fault_breach None = None
+-- the rule that an answer says is broken, if one is
+abbrev pub breach_in : {A : Type 0} → Result A VoteFault → Option Breach
+breach_in (Ok a) = None
+breach_in (Err fault) = Some (vote_breach fault)
+
+-- an answer with that value where no rule is broken, and else with the fault of the rule
+abbrev pub Answers : {A : Type 0} → Result A VoteFault → Option Breach → A → Type 0
+Answers (Ok a) breach value = (breach ≡ None) × (a ≡ value)
+Answers (Err fault) breach value = breach ≡ Some (vote_breach fault)
 
 -- what a refused call leaves as it was, an accepted one changes
 abbrev pub changed : {A : Type 0} → Option Breach → A → A → A
 changed (Some b) new old = old
 changed None new old = new
+
+-- the records of the n heads enrolled in a table, or the refusal of a table that is shorter
+abbrev pub EnrolledIn : {B : Type 0} → Result (Enrolled B) VoteFault → List (Head B) → ℕ → Type 0
+EnrolledIn (Ok heads) hs n = (heads.table.now ≡ hs) × (heads.n ≡ n) × (nat_lt (length hs) n ≡ false)
+EnrolledIn (Err fault) hs n = (fault ≡ ShortTable) × (nat_lt (length hs) n ≡ true)
 
 -- ---- the stages as plain values
 
@@ -169,12 +180,15 @@ abbrev pub still_running : Option ℕ → Option Breach
 still_running (Some head) = Some (still_runs head)
 still_running None = None
 
+abbrev pub close_breach : {B : Type 0} → ℕ → List (Head B) → Option Breach
+close_breach n hs = or_else (short_table n hs) (still_running (lowest (bit (running hs n)) 64))
+
 -- the ballot of the lowest head that has decided
+abbrev pub decided_in : {B : Type 0} → ℕ → List (Head B) → Option B
+decided_in n hs = first (λ i. ballot_of (slice_get hs i)) n
+
 abbrev pub closed : {V B : Type 0} → Vote V → List (Head B) → Answer (Option B) (Vote V)
-closed vote hs =
-    unless (or_else (short_table vote.n hs) (still_running (lowest (bit (running hs vote.n)) 64)))
-    (first (λ i. ballot_of (slice_get hs i)) vote.n)
-    vote
+closed vote hs = unless (close_breach vote.n hs) (decided_in vote.n hs) vote
 
 abbrev pub standing_as : {B : Type 0} → State → B → Standing B
 standing_as Running b = standing.Running

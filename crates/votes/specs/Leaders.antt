@@ -1,5 +1,5 @@
 -- The senders that have the least ballot of all that were sent, and those that have another.
-use Rattle.std.specs.Prelude.{◌≡◌, ℕ, ◌<◌, Bool, true, false, not, ◌&&◌, ◌⊎◌, List, Some, None, Option}
+use Rattle.std.specs.Prelude.{◌≡◌, ℕ, ◌<◌, ◌≤◌, Bool, true, false, not, ◌&&◌, ◌⊎◌, List, length, Some, None, Option}
 use Rattle.sets.specs.Sets.{bit, word_of}
 use Rattle.heads.specs.declared.head.Head.{Head}
 use Rattle.heads.specs.Heard.{estimate_at, IsLeast}
@@ -22,6 +22,10 @@ pub record Leads {B : Type 0} (earlier : B → B → Bool) (hs : List (Head B)) 
   pub leaders : l.leaders ≡ having earlier hs n senders l.least
   pub others : l.others ≡ word_of 64 (λ i. bit senders i && not (bit l.leaders i))
   pub enrolled : (i : ℕ) → i < 64 → bit senders i ≡ true → i < n
+
+-- they lead some number of heads and some senders
+abbrev pub LeadsIn : {B : Type 0} → (B → B → Bool) → List (Head B) → Leaders B → Type 0
+LeadsIn earlier hs l = (n : ℕ) × (senders : ℕ) × (n ≤ length hs) × Leads earlier hs n senders l
 
 -- a hear word has leaders and others alone, and at least one leader
 pub record Led (word leaders others : ℕ) : Type 0 where

@@ -3,16 +3,17 @@ ghost use Rattle.std.specs.Prelude.{◌≡◌, ℕ, ◌<◌, Bool, true, false, 
 ghost use Rattle.sets.specs.Sets.{bit};
 ghost use Rattle.heads.specs.Rules.{due, strict, false_alarm};
 ghost use Rattle.votes.specs.Rounds.{sent, heard_of, idle_noise, late_breach, report_breach};
-ghost use Rattle.votes.specs.Calls.{fault_breach};
+ghost use Rattle.votes.specs.Calls.{breach_in};
 
 use crate::faults::VoteFault;
+use crate::round::{Reception, Report, Round};
 use heads::method::Method;
 
 // Whether a head that does not run hears something or is alarmed.
-fn idle_noise(runs: bool, word: u64, alarm: bool) -> bool
-    ensures { result ≡ idle_noise runs word alarm }
+fn idle_noise(r: Reception) -> bool
+    ensures { result ≡ idle_noise r.runs r.word r.alarm }
 {
-    !runs && (word != 0 || alarm)
+    !r.runs && (r.word != 0 || r.alarm)
 }
 
 // Whether the word has a head that did not send.
@@ -44,86 +45,88 @@ pub fn heard_of(senders: u64, word: u64) -> u32
 }
 
 // Whether a running head lacks an alarm that is due.
-fn lacks_alarm<B, V: Method<B>>(method: V, c: u32, t: u32, runs: bool, alarm: bool) -> bool
-    ensures { result ≡ runs && (due V.Method.scheme c t && not alarm) }
+fn lacks_alarm<B, V: Method<B>>(method: V, c: u32, t: u32, r: Reception) -> bool
+    ensures { result ≡ r.runs && (due V.Method.scheme c t && not r.alarm) }
 {
-    runs && method.due(c, t) && !alarm
+    r.runs && method.due(c, t) && !r.alarm
 }
 
 // Whether an alarm is false in a vote that refuses it.
-fn refused_alarm<B, V: Method<B>>(method: V, c: u32, t: u32, alarm: bool) -> bool
-    ensures { result ≡ strict V.Method.scheme && (alarm && false_alarm c t) }
+fn refused_alarm<B, V: Method<B>>(method: V, c: u32, t: u32, r: Reception) -> bool
+    ensures { result ≡ strict V.Method.scheme && (r.alarm && false_alarm c t) }
 {
-    method.strict() && alarm && t == c
-}
-
-// The rule that a head breaks whose word has senders alone; c heads sent.
-fn late_breach<B, V: Method<B>>(
-    method: V,
-    senders: u64,
-    c: u32,
-    round: u32,
-    runs: bool,
-    word: u64,
-    alarm: bool,
-    head: usize,
-) -> Option<VoteFault>
-    requires { c ≡ sent senders }
-    ensures { fault_breach result ≡ late_breach V.Method.scheme senders round runs word alarm head }
-{
-    if own_unheard(senders, word, head) {
-        return Some(VoteFault::OwnUnheard { round, head });
-    }
-    let t = heard_of(senders, word);
-    if lacks_alarm::<B, V>(method, c, t, runs, alarm) {
-        return Some(VoteFault::AlarmMissing { round, head });
-    }
-    if refused_alarm::<B, V>(method, c, t, alarm) {
-        return Some(VoteFault::FalseAlarm { round, head });
-    }
-    None
+    method.strict() && r.alarm && t == c
 }
 
 // The hear word of a head; 0 for a number that names none.
 fn word_at(words: &[u64], head: usize) -> u64
     ensures { result ≡ slice_index words.now head }
 {
-    if head < words.len() { words[head] } else { 0 }
+    words.get(head).copied().unwrap_or(0)
 }
 
-// The first rule that a report breaks, heads 0 to 63 in order.
-pub(crate) fn report_breach<B, V: Method<B>>(
-    method: V,
-    running: u64,
-    senders: u64,
-    round: u32,
-    words: &[u64],
-    alarms: u64,
-) -> Option<VoteFault>
-    ensures { fault_breach result ≡ report_breach V.Method.scheme running senders round words.now alarms }
+// What a report says of a head.
+fn reception(running: u64, report: Report<'_>, head: usize) -> Reception
+    ensures { result ≡ record { head = head; runs = bit running head; word = slice_index report.entry.words.now head; alarm = bit report.entry.alarms head } }
 {
-    let c = sets::size(senders);
-    let mut found: Option<VoteFault> = None;
-    'check: for head in 0..64 {
-        let word = word_at(words, head);
-        let alarm = sets::has(alarms, head);
-        let runs = sets::has(running, head);
-        if idle_noise(runs, word, alarm) {
-            found = Some(VoteFault::IdleNoise { round, head });
-            break 'check;
+    Reception {
+        head,
+        runs: sets::has(running, head),
+        word: word_at(report.words, head),
+        alarm: sets::has(report.alarms, head),
+    }
+}
+
+impl<V: Copy> Round<V> {
+    // Checks a head whose word has senders alone; c heads sent.
+    fn check_late<B>(self, c: u32, r: Reception) -> Result<(), VoteFault>
+    where
+        V: Method<B>,
+        requires { c ≡ sent self.senders }
+        ensures { breach_in result ≡ late_breach V.Method.scheme self.senders self.number r.runs r.word r.alarm r.head }
+    {
+        let (round, head) = (self.number, r.head);
+        if own_unheard(self.senders, r.word, head) {
+            return Err(VoteFault::OwnUnheard { round, head });
         }
-        if has_stranger(senders, word) {
-            for other in 0..64 {
-                if stranger(senders, word, other) {
-                    found = Some(VoteFault::NotSender { round, head, other });
-                    break 'check;
+        let t = heard_of(self.senders, r.word);
+        if lacks_alarm::<B, V>(self.method, c, t, r) {
+            return Err(VoteFault::AlarmMissing { round, head });
+        }
+        if refused_alarm::<B, V>(self.method, c, t, r) {
+            return Err(VoteFault::FalseAlarm { round, head });
+        }
+        Ok(())
+    }
+
+    // Checks a report, heads 0 to 63 in order, up to the first rule that it breaks.
+    pub(crate) fn check_report<B>(self, running: u64, report: Report<'_>) -> Result<(), VoteFault>
+    where
+        V: Method<B>,
+        ensures { breach_in result ≡ report_breach V.Method.scheme running self.senders self.number report.entry.words.now report.entry.alarms }
+    {
+        let (round, senders) = (self.number, self.senders);
+        let c = sets::size(senders);
+        let mut found = Ok(());
+        'check: for head in 0..64 {
+            let r = reception(running, report, head);
+            if idle_noise(r) {
+                found = Err(VoteFault::IdleNoise { round, head });
+                break 'check;
+            }
+            if has_stranger(senders, r.word) {
+                for other in 0..64 {
+                    if stranger(senders, r.word, other) {
+                        found = Err(VoteFault::NotSender { round, head, other });
+                        break 'check;
+                    }
                 }
             }
+            found = self.check_late::<B>(c, r);
+            if found.is_err() {
+                break 'check;
+            }
         }
-        found = late_breach::<B, V>(method, senders, c, round, runs, word, alarm, head);
-        if found.is_some() {
-            break 'check;
-        }
+        found
     }
-    found
 }

@@ -4,7 +4,7 @@ ghost use Rattle.votes.specs.Calls.{full, roll_answer, enrolled, enrolled_table,
 
 use crate::faults::{Refused, VoteFault};
 use crate::stages::{Roll, Vote};
-use heads::head::{Ballots, Head, Prefix, State};
+use heads::head::Head;
 
 // Whether the roll or the table has no room for a head more.
 fn is_full(n: usize, room: usize) -> bool
@@ -33,18 +33,7 @@ impl Roll {
                 fault: VoteFault::RollFull,
             });
         }
-        table[self.n] = Head {
-            state: State::Running,
-            first: ballot,
-            estimate: ballot,
-            ballots: Ballots {
-                least: None,
-                differ: false,
-            },
-            flag: true,
-            prefix: Prefix { bits: 0, length: 0 },
-            noise: false,
-        };
+        table[self.n] = Head::new(ballot);
         Ok(Roll { n: self.n + 1 })
     }
 

@@ -1,61 +1,52 @@
 // The ballots heard, by way of the least ballot of all that were sent, which most heads hear.
-ghost use Rattle.std.specs.Prelude.{◌≡◌, ◌≤◌, true, not, ◌&&◌, length, IfSome};
+ghost use Rattle.std.specs.Prelude.{◌≡◌, true, not, ◌&&◌, IfSome};
+ghost use Rattle.sets.specs.Sets.{bit};
 ghost use Rattle.heads.specs.Heard.{ballots_of};
-ghost use Rattle.votes.specs.Leaders.{alike, having, Leads, Led};
+ghost use Rattle.votes.specs.Leaders.{alike, having, Leads, LeadsIn, Led};
 
+use crate::enrolled::Enrolled;
 use crate::leaders::Leaders;
+use crate::tables::places;
 use ballots::Ballot;
 use heads::ballots_heard::ballots_heard;
 use heads::head::{Ballots, Head};
 
 // Whether neither ballot comes before the other.
+// Kept: a kind of ballot is known by its order alone, which has no `==`.
 fn same_ballot<B: Ballot>(a: B, b: B) -> bool
     ensures { result ≡ alike B.earlier a b }
 {
     !a.before(&b) && !b.before(&a)
 }
 
-// Whether a sender has the ballot.
-fn holds<B: Ballot>(sends: bool, estimate: B, ballot: B) -> bool
-    ensures { result ≡ sends && alike B.earlier estimate ballot }
-{
-    sends && same_ballot(estimate, ballot)
-}
-
-// The senders that have the ballot.
-fn with_ballot<B: Ballot>(table: &[Head<B>], n: usize, senders: u64, ballot: B) -> u64
-    requires { (n ≤ length table.now) × (n ≤ 64) }
-    ensures { result ≡ having B.earlier table.now n senders ballot }
-{
-    let mut set = 0;
-    for i in 0..n {
-        let h = table[i];
-        if holds(sets::has(senders, i), h.estimate, ballot) {
-            set |= 1 << i;
-        }
+impl<'a, B: Ballot> Enrolled<'a, B> {
+    // The senders that have the ballot.
+    fn with_ballot(&self, senders: u64, ballot: B) -> u64
+        ensures { result ≡ having B.earlier self.now.table.now self.now.n senders ballot }
+    {
+        places(
+            self.heads(),
+            |i, h|
+                ensures { result ≡ bit senders i && alike B.earlier h.estimate ballot }
+            { sets::has(senders, i) && same_ballot(h.estimate, ballot) },
+        )
     }
-    set
-}
 
-// The senders by whether they have the least ballot that was sent; none where no ballot was, or a sender has no record.
-pub(crate) fn leaders_of<B: Ballot>(table: &[Head<B>], n: usize, senders: u64) -> Option<Leaders<B>>
-    requires { (n ≤ length table.now) × (n ≤ 64) }
-    ensures { IfSome result (λ l. Leads B.earlier table.now n senders l) }
-{
-    if sets::next(senders, n).is_some() {
-        return None;
-    }
-    match ballots_heard(table, senders).least {
-        Some(least) => {
-            let leaders = with_ballot(table, n, senders, least);
-            let others = sets::without(senders, leaders);
-            Some(Leaders {
-                least,
-                leaders,
-                others,
-            })
+    // The senders by whether they have the least ballot that was sent; none where no ballot was, or a sender has no record.
+    pub(crate) fn leaders(&self, senders: u64) -> Option<Leaders<B>>
+        ensures { IfSome result (λ l. Leads B.earlier self.now.table.now self.now.n senders l) }
+    {
+        if sets::next(senders, self.n).is_some() {
+            return None;
         }
-        None => None,
+        let least = ballots_heard(self.table, senders).least?;
+        let leaders = self.with_ballot(senders, least);
+        let others = sets::without(senders, leaders);
+        Some(Leaders {
+            least,
+            leaders,
+            others,
+        })
     }
 }
 
@@ -67,14 +58,8 @@ fn is_led(word: u64, leaders: u64, others: u64) -> bool
 }
 
 // The ballots heard with a hear word; a head that hears a leader hears the least ballot of all.
-pub(crate) fn heard_by<B: Ballot>(
-    table: &[Head<B>],
-    n: usize,
-    senders: u64,
-    leaders: Option<Leaders<B>>,
-    word: u64,
-) -> Ballots<B>
-    requires { (n ≤ length table.now) × ((n ≤ 64) × (IfSome leaders (λ l. Leads B.earlier table.now n senders l))) }
+fn heard_by<B: Ballot>(table: &[Head<B>], leaders: Option<Leaders<B>>, word: u64) -> Ballots<B>
+    requires { IfSome leaders (λ l. LeadsIn B.earlier table.now l) }
     ensures { result ≡ ballots_of B.earlier table.now word }
 {
     if let Some(l) = leaders {
@@ -91,19 +76,18 @@ pub(crate) fn heard_by<B: Ballot>(
 // The ballots heard with a hear word, where those heard with the last one are known; often the two are the same.
 pub(crate) fn heard_again<B: Ballot>(
     table: &[Head<B>],
-    n: usize,
-    senders: u64,
     leaders: Option<Leaders<B>>,
     word: u64,
     last: u64,
     ballots: Ballots<B>,
 ) -> Ballots<B>
-    requires { (n ≤ length table.now) × ((n ≤ 64) × ((IfSome leaders (λ l. Leads B.earlier table.now n senders l)) × (ballots ≡ ballots_of B.earlier table.now last))) }
+    requires leaders { IfSome leaders (λ l. LeadsIn B.earlier table.now l) }
+    requires last { ballots ≡ ballots_of B.earlier table.now last }
     ensures { result ≡ ballots_of B.earlier table.now word }
 {
     if word == last {
         ballots
     } else {
-        heard_by(table, n, senders, leaders, word)
+        heard_by(table, leaders, word)
     }
 }

@@ -1,15 +1,38 @@
 // Opening a round, and withdrawing it.
-ghost use Rattle.std.specs.Prelude.{◌≡◌};
-ghost use Rattle.votes.specs.Calls.{open_answer, opened, begun_as, withdrawn};
+ghost use Rattle.std.specs.Prelude.{◌≡◌, ◌+◌};
+ghost use Rattle.votes.specs.Rounds.{senders};
+ghost use Rattle.votes.specs.Calls.{open_answer, open_breach, opened, Answers, begun_as, withdrawn};
 
+use crate::enrolled::Enrolled;
 use crate::faults::{Refused, VoteFault};
 use crate::stages::{OpenRound, Vote};
-use crate::tables::{in_state, lowest_idle, senders_of};
+use crate::tables::lowest_idle;
 use ballots::Ballot;
 use heads::head::{Head, State};
 use heads::method::Method;
 
 impl<V: Drop> Vote<V> {
+    // Who sends in the next round, or the first rule that opening it breaks.
+    fn next_senders<B: Ballot>(&self, table: &[Head<B>], turns: u64) -> Result<u64, VoteFault>
+    where
+        V: Method<B>,
+        ensures { Answers result (open_breach self.now.n (self.now.heard + 1) table.now turns) (senders V.Method.scheme (self.now.heard + 1) table.now self.now.n turns) }
+    {
+        let heads = Enrolled::of(table, self.n)?;
+        let round = self.heard + 1;
+        if round > 10000 {
+            return Err(VoteFault::RoundsSpent { round });
+        }
+        let running = heads.in_state(State::Running);
+        if sets::next(running, 0).is_none() {
+            return Err(VoteFault::NoneRuns { round });
+        }
+        if let Some(head) = lowest_idle(turns, running) {
+            return Err(VoteFault::IdleTurn { round, head });
+        }
+        Ok(heads.senders(self.method, round, turns))
+    }
+
     // The next round, with turns for a set of heads; it fixes who sends.
     pub fn open<B: Ballot>(
         self,
@@ -20,40 +43,16 @@ impl<V: Drop> Vote<V> {
         V: Method<B>,
         ensures { open_answer result ≡ opened V.Method.scheme self table.now turns }
     {
-        if table.len() < self.n {
-            return Err(Refused {
-                back: self,
-                fault: VoteFault::ShortTable,
-            });
+        match self.next_senders(table, turns) {
+            Ok(senders) => Ok(OpenRound {
+                n: self.n,
+                heard: self.heard,
+                method: self.method,
+                senders,
+                spent: false,
+            }),
+            Err(fault) => Err(Refused { back: self, fault }),
         }
-        let round = self.heard + 1;
-        if round > 10000 {
-            return Err(Refused {
-                back: self,
-                fault: VoteFault::RoundsSpent { round },
-            });
-        }
-        let running = in_state(table, self.n, State::Running);
-        if sets::next(running, 0).is_none() {
-            return Err(Refused {
-                back: self,
-                fault: VoteFault::NoneRuns { round },
-            });
-        }
-        if let Some(head) = lowest_idle(turns, running) {
-            return Err(Refused {
-                back: self,
-                fault: VoteFault::IdleTurn { round, head },
-            });
-        }
-        let senders = senders_of(self.method, round, table, self.n, turns);
-        Ok(OpenRound {
-            n: self.n,
-            heard: self.heard,
-            method: self.method,
-            senders,
-            spent: false,
-        })
     }
 
     // How many heads are enrolled.

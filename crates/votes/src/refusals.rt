@@ -24,36 +24,37 @@ pub fn ballot_of<B: Coded>(code: u16) -> Result<B, VoteFault>
     Ok(ballots::decode(code)?)
 }
 
-fn numbered(number: u32) -> Refusal
-    ensures { refusal_breach result ≡ rule number }
-{
-    Refusal {
-        number,
-        round: None,
-        head: None,
-        other: None,
+impl Refusal {
+    // The refusal by a rule that names no round and no head.
+    pub fn rule(number: u32) -> Refusal
+        ensures { refusal_breach result ≡ rule number }
+    {
+        Refusal {
+            number,
+            round: None,
+            head: None,
+            other: None,
+        }
     }
-}
 
-fn in_round(number: u32, round: u32) -> Refusal
-    ensures { refusal_breach result ≡ in_round number round }
-{
-    Refusal {
-        number,
-        round: Some(round as usize),
-        head: None,
-        other: None,
+    // The refusal by a rule in a round.
+    fn in_round(number: u32, round: u32) -> Refusal
+        ensures { refusal_breach result ≡ in_round number round }
+    {
+        Refusal {
+            round: Some(round as usize),
+            ..Refusal::rule(number)
+        }
     }
-}
 
-fn at_head(number: u32, round: u32, head: usize) -> Refusal
-    ensures { refusal_breach result ≡ at_head number round head }
-{
-    Refusal {
-        number,
-        round: Some(round as usize),
-        head: Some(head),
-        other: None,
+    // The refusal by a rule in a round, at a head.
+    fn at_head(number: u32, round: u32, head: usize) -> Refusal
+        ensures { refusal_breach result ≡ at_head number round head }
+    {
+        Refusal {
+            head: Some(head),
+            ..Refusal::in_round(number, round)
+        }
     }
 }
 
@@ -63,31 +64,27 @@ impl VoteFault {
         ensures { refusal_breach result ≡ vote_breach self }
     {
         match self {
-            VoteFault::Ballot(BallotFault::BeyondRange) => numbered(1),
-            VoteFault::RollFull => numbered(2),
-            VoteFault::NoHeads => numbered(3),
-            VoteFault::ShortTable => numbered(4),
-            VoteFault::RoundsSpent { round } => in_round(5, round),
-            VoteFault::NoneRuns { round } => in_round(6, round),
-            VoteFault::IdleTurn { round, head } => at_head(7, round, head),
-            VoteFault::WordCount { round } => in_round(8, round),
-            VoteFault::IdleStop { round, head } => at_head(9, round, head),
-            VoteFault::IdleNoise { round, head } => at_head(10, round, head),
+            VoteFault::Ballot(BallotFault::BeyondRange) => Refusal::rule(1),
+            VoteFault::RollFull => Refusal::rule(2),
+            VoteFault::NoHeads => Refusal::rule(3),
+            VoteFault::ShortTable => Refusal::rule(4),
+            VoteFault::RoundsSpent { round } => Refusal::in_round(5, round),
+            VoteFault::NoneRuns { round } => Refusal::in_round(6, round),
+            VoteFault::IdleTurn { round, head } => Refusal::at_head(7, round, head),
+            VoteFault::WordCount { round } => Refusal::in_round(8, round),
+            VoteFault::IdleStop { round, head } => Refusal::at_head(9, round, head),
+            VoteFault::IdleNoise { round, head } => Refusal::at_head(10, round, head),
             VoteFault::NotSender { round, head, other } => Refusal {
-                number: 11,
-                round: Some(round as usize),
-                head: Some(head),
                 other: Some(other),
+                ..Refusal::at_head(11, round, head)
             },
-            VoteFault::OwnUnheard { round, head } => at_head(12, round, head),
-            VoteFault::AlarmMissing { round, head } => at_head(13, round, head),
-            VoteFault::FalseAlarm { round, head } => at_head(14, round, head),
-            VoteFault::HearingSpent { round } => in_round(15, round),
+            VoteFault::OwnUnheard { round, head } => Refusal::at_head(12, round, head),
+            VoteFault::AlarmMissing { round, head } => Refusal::at_head(13, round, head),
+            VoteFault::FalseAlarm { round, head } => Refusal::at_head(14, round, head),
+            VoteFault::HearingSpent { round } => Refusal::in_round(15, round),
             VoteFault::StillRuns { head } => Refusal {
-                number: 16,
-                round: None,
                 head: Some(head),
-                other: None,
+                ..Refusal::rule(16)
             },
         }
     }

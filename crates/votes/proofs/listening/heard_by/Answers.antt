@@ -2,7 +2,7 @@ use Rattle.std.proofs.Common.{ℕ, Bool, not, ◌&&◌, eqb, sym, ◌∙◌}
 use Rattle.std.proofs.lemmas.Option.{MatchOption-at_some}
 use Rattle.std.proofs.lemmas.Bool.{not-true, not-false, eqb-true, eqb-false}
 use Rattle.sets.specs.Sets.{bit}
-use Rattle.votes.specs.Leaders.{Leads}
+use Rattle.votes.specs.Leaders.{LeadsIn}
 use Rattle.votes.proofs.Leading.{none_in, some_in, led_ballots}
 use Rattle.votes.proofs.listening.heard_by.Goals as goal
 
@@ -13,8 +13,8 @@ returns-then-is_led g c =
     let l = c.in-Some.l in
     let word = c.args.word in
     let both : ℕ → Bool = λ i. bit word i && bit l.others i in
-    let leads : Leads earlier hs c.args.n c.args.senders l = MatchOption-at_some (Unit {0}) (λ x. Leads earlier hs c.args.n c.args.senders x) l c.in-Some.is c.requires.1.1 in
-    led_ballots earlier g.met.B.Ballot.total hs c.args.n c.args.senders c.requires.0 l leads word (c.is_led.ensures c.if-is_led.true)
+    let leads : LeadsIn earlier hs l = MatchOption-at_some (Unit {0}) (λ x. LeadsIn earlier hs x) l c.in-Some.is c.requires in
+    led_ballots earlier g.met.B.Ballot.total hs leads.0 leads.1 leads.2 l leads.3 word (c.is_led.ensures c.if-is_led.true)
     (not (eqb c.shared.result 0))
     (λ e. none_in both (sym c.shared.ensures ∙ eqb-true _ _ (not-false _ e)))
     (λ e. some_in both (λ z. eqb-false _ _ (not-true _ e) (c.shared.ensures ∙ z)))

@@ -1,8 +1,0 @@
-use Rattle.std.proofs.Common.{◌≡◌}
-use Rattle.votes.specs.Tables.{rewrite}
-use Rattle.votes.specs.Passes.{take_at}
-use Rattle.votes.proofs.steps.step_all.Given as goal
-
-abbrev pub invariant-loop-i : goal.invariant-loop-i
-invariant-loop-i g l =
-    l.table ≡ rewrite (take_at g.V.Method.scheme l.senders l.round (record { words = l.words; alarms = l.alarms; stops = l.stops })) l.i l.initial.table

@@ -4,15 +4,11 @@ ghost use Rattle.cases.specs.Starred.{Starred};
 ghost use Rattle.cases.specs.Exhibits.{Exhibits};
 
 // The cases of the list hold.
-pub fn starred() -> u8
+pub fn starred()
     ensures { Starred }
-{
-    0
-}
+{}
 
 // There are calm chains that end, and chains that have a running head one calm round before each bound.
-pub fn exhibits() -> u8
+pub fn exhibits()
     ensures { Exhibits }
-{
-    0
-}
+{}

@@ -1,7 +1,7 @@
 // Driving one round.
 ghost use Rattle.driving.specs.Drives.{by_parts, Drives};
 
-use crate::report::{alarms_of, put_words};
+use crate::report::Round;
 use ballots::Ballot;
 use heads::head::Head;
 use heads::method::Method;
@@ -45,19 +45,21 @@ pub fn drive<B: Ballot, V: Method<B> + Drop, C: Channel, D: Detector, M: Manager
         });
     }
     let senders = open.senders();
-    put_words(channel, round, running, senders, list);
-    let alarms = alarms_of(detector, round, running, senders, list);
+    let driven = Round {
+        number: round,
+        running,
+        senders,
+    };
+    driven.put_words(channel, list);
+    let alarms = driven.alarms(detector, list);
     match open.hear(table, list, alarms, stops) {
         Ok(heard) => {
             manager.tell(round, sets::size(senders), alarms);
             Ok(heard)
         }
-        Err(refused) => {
-            let Refused { back, fault } = refused;
-            Err(Refused {
-                back: back.withdraw(),
-                fault,
-            })
-        }
+        Err(Refused { back, fault }) => Err(Refused {
+            back: back.withdraw(),
+            fault,
+        }),
     }
 }

@@ -1,70 +1,62 @@
 // The report that the parts spell.
-ghost use Rattle.std.specs.Prelude.{◌≡◌, ◌≤◌, cond, ◌&&◌, map, length, slice_index};
+ghost use Rattle.std.specs.Prelude.{◌≡◌, ◌≤◌, map, length, slice_index};
 ghost use Rattle.std.specs.List.{range_with_len};
-ghost use Rattle.sets.specs.Sets.{bit, word_of};
-ghost use Rattle.votes.specs.Rounds.{sent, heard_of};
+ghost use Rattle.sets.specs.Sets.{word_of};
 ghost use Rattle.runs.specs.Driving.{word_for, alarm_for};
 
 use parts::channel::Channel;
 use parts::detector::Detector;
 use votes::heard_of;
 
-// What head i hears: nothing unless it runs.
-fn word_for<C: Channel>(channel: &C, round: u32, running: u64, senders: u64, i: usize) -> u64
-    ensures { result ≡ word_for (C.Channel.meaning channel.now) round running senders i }
-{
-    if sets::has(running, i) {
-        channel.heard(round, i, senders)
-    } else {
-        0
-    }
+// A round as it is driven: its number, who runs and who sends.
+#[derive(Clone, Copy)]
+pub(crate) struct Round {
+    pub(crate) number: u32,
+    pub(crate) running: u64,
+    pub(crate) senders: u64,
 }
 
-// Puts in a hear word for each head.
-pub(crate) fn put_words<C: Channel>(
-    channel: &C,
-    round: u32,
-    running: u64,
-    senders: u64,
-    list: &mut [u64],
-)
-    ensures { list.new ≡ map (word_for (C.Channel.meaning channel.now) round running senders) (range_with_len 0 (length list.old)) }
-{
-    for i in 0..list.len() {
-        list[i] = word_for(channel, round, running, senders, i);
-    }
-}
-
-// Whether head i is alarmed: not unless it runs.
-fn alarm_for<D: Detector>(
-    detector: &D,
-    round: u32,
-    running: u64,
-    senders: u64,
-    word: u64,
-    i: usize,
-) -> bool
-    ensures { result ≡ alarm_for (D.Detector.meaning detector.now) round running senders word i }
-{
-    sets::has(running, i) && detector.alarms(round, i, sets::size(senders), heard_of(senders, word))
-}
-
-// The heads that are alarmed.
-pub(crate) fn alarms_of<D: Detector>(
-    detector: &D,
-    round: u32,
-    running: u64,
-    senders: u64,
-    words: &[u64],
-) -> u64
-    requires { length words.now ≤ 64 }
-    ensures { result ≡ word_of (length words.now) (λ i. alarm_for (D.Detector.meaning detector.now) round running senders (slice_index words.now i) i) }
-{
-    let mut alarms = 0;
-    for i in 0..words.len() {
-        if alarm_for(detector, round, running, senders, words[i], i) {
-            alarms |= 1 << i;
+impl Round {
+    // What head i hears: nothing unless it runs.
+    fn word_for<C: Channel>(self, channel: &C, i: usize) -> u64
+        ensures { result ≡ word_for (C.Channel.meaning channel.now) self.number self.running self.senders i }
+    {
+        if sets::has(self.running, i) {
+            channel.heard(self.number, i, self.senders)
+        } else {
+            0
         }
     }
-    alarms
+
+    // Puts in a hear word for each head.
+    pub(crate) fn put_words<C: Channel>(self, channel: &C, list: &mut [u64])
+        ensures { list.new ≡ map (word_for (C.Channel.meaning channel.now) self.number self.running self.senders) (range_with_len 0 (length list.old)) }
+    {
+        for (i, word) in list.iter_mut().enumerate() {
+            *word = self.word_for(channel, i);
+        }
+    }
+
+    // Whether head i is alarmed: not unless it runs.
+    fn alarm_for<D: Detector>(self, detector: &D, word: u64, i: usize) -> bool
+        ensures { result ≡ alarm_for (D.Detector.meaning detector.now) self.number self.running self.senders word i }
+    {
+        let c = sets::size(self.senders);
+        let t = heard_of(self.senders, word);
+        sets::has(self.running, i) && detector.alarms(self.number, i, c, t)
+    }
+
+    // The heads that are alarmed.
+    pub(crate) fn alarms<D: Detector>(self, detector: &D, words: &[u64]) -> u64
+        requires { length words.now ≤ 64 }
+        ensures { result ≡ word_of (length words.now) (λ i. alarm_for (D.Detector.meaning detector.now) self.number self.running self.senders (slice_index words.now i) i) }
+    {
+        let mut alarms = 0;
+        for (i, &word) in words.iter().enumerate() {
+            if self.alarm_for(detector, word, i) {
+                alarms |= 1 << i;
+            }
+        }
+        alarms
+    }
 }

@@ -8,7 +8,6 @@ use Rattle.heads.specs.declared.head.State.{State}
 use Rattle.heads.specs.declared.head.State.TheVariants.{Running, Decided, Stopped}
 use Rattle.heads.specs.Rules.{Scheme, Fit, calm_bound, stopped, fresh}
 use Rattle.votes.specs.declared.stages.Vote.{Vote}
-
 use Rattle.runs.specs.Driving.{driving}
 use Rattle.runs.specs.Chains.{Stage, voting, rounds, Calls, Begins}
 use Rattle.runs.specs.Promise.{Steps, Promise}

@@ -11,7 +11,6 @@ use Rattle.heads.specs.declared.head.Heard.{Heard}
 use Rattle.heads.specs.declared.head.State.TheVariants.{Decided}
 use Rattle.heads.specs.Rules.{Scheme, odd, begins, keeps, noisy, fresh}
 use Rattle.heads.specs.Rules.Scheme.{split}
-
 use Rattle.runs.proofs.Tests.{Or, decide, and_left, and_right, and_both, or_cases, cond-true, cond-false, holds, same_test}
 use Rattle.runs.proofs.Parity.{odd_next}
 use Rattle.runs.proofs.Counts.{count_some, count_pos}

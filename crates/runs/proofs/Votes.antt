@@ -7,7 +7,6 @@ use Rattle.heads.specs.declared.head.State.TheVariants.{Stopped}
 use Rattle.heads.specs.Rules.{Scheme, Fit, odd, Calmness, calmness, calm_bound, fresh}
 use Rattle.heads.specs.Rules.Scheme.{short, bitwise, split}
 use Rattle.heads.specs.Rules.Calmness.{one_turn, no_stop}
-
 use Rattle.runs.proofs.Steps.{Heads, is_running, is_decided, done, Alive, Events, Step, Quiet, Small, NoHeadRuns}
 use Rattle.runs.proofs.Short as of-short
 use Rattle.runs.proofs.Bitwise as of-bits

@@ -107,11 +107,17 @@ at_lowest k round None = None
 abbrev pub short_table : {B : Type 0} → ℕ → List (Head B) → Option Breach
 short_table n hs = when (nat_lt (length hs) n) (numbered 4)
 
+abbrev pub rounds_spent : ℕ → Option Breach
+rounds_spent round = when (nat_lt 10000 round) (in_round 5 round)
+
+abbrev pub none_runs : ℕ → ℕ → Option Breach
+none_runs round runners = when (not (is_some (lowest (bit runners) 64))) (in_round 6 round)
+
 abbrev pub open_breach : {B : Type 0} → ℕ → ℕ → List (Head B) → ℕ → Option Breach
 open_breach n round hs turns =
     or_else (short_table n hs)
-    (or_else (when (nat_lt 10000 round) (in_round 5 round))
-    (or_else (when (not (is_some (lowest (bit (running hs n)) 64))) (in_round 6 round))
+    (or_else (rounds_spent round)
+    (or_else (none_runs round (running hs n))
     (at_lowest 7 round (lowest_idle turns (running hs n)))))
 
 abbrev pub open_answer : {V : Type 0} → Result (OpenRound V) (Refused (Vote V)) → Answer (Opened V) (Vote V)
@@ -209,11 +215,3 @@ asked n hs i = cond (nat_lt (length hs) n) (Err ShortTable) (Ok (standing_at hs 
 -- the heads that run, as a set
 abbrev pub running_in : {B : Type 0} → ℕ → List (Head B) → Result ℕ VoteFault
 running_in n hs = cond (nat_lt (length hs) n) (Err ShortTable) (Ok (running hs n))
-
--- ---- the refusals of opening one by one, for the calls that refuse by them in another order
-
-abbrev pub rounds_spent : ℕ → Option Breach
-rounds_spent round = when (nat_lt 10000 round) (in_round 5 round)
-
-abbrev pub none_runs : ℕ → ℕ → Option Breach
-none_runs round runners = when (not (is_some (lowest (bit runners) 64))) (in_round 6 round)

@@ -1,4 +1,4 @@
-use Rattle.std.proofs.Common.{sym, ◌∙◌}
+use Rattle.std.proofs.Common.{Err, sym, ap, ◌∙◌}
 use Rattle.std.proofs.lemmas.Result.{err_from_is_err_and}
 use Rattle.driving.proofs.Ends.{short_ends, count_ends, open_ends, stop_ends, heard_ends, refused_ends}
 use Rattle.driving.proofs.driver.drive.Goals as goal
@@ -40,7 +40,7 @@ returns-in-Ok-hear g c =
     c.in-Ok.running (sym c.running.ensures ∙ c.in-Ok.is) c.rounds-round.result c.rounds-round.ensures
     (c.if-list-heads.false ∙ c.heads.ensures) c.turns-turns.result c.turns-turns.ensures c.open.result c.open.ensures
     c.in_ok-open.open c.in_ok-open.was (sym c.lowest_idle.ensures ∙ c.in_default.is)
-    c.senders-senders.result c.senders-senders.ensures c.put_words.new.list c.put_words.ensures c.alarms_of-alarms.result c.alarms_of-alarms.ensures
+    c.senders-senders.result c.senders-senders.ensures c.put_words.new.list c.put_words.ensures c.alarms-alarms.result c.alarms-alarms.ensures
     c.hear.result c.hear.ensures.answer c.hear.new.table c.hear.ensures.table
     c.in-Ok-hear.heard c.in-Ok-hear.is c.size.result c.size.ensures.value c.tell.new.self c.tell.ensures (g.met.M.Manager.told c.args.manager.now _ _ _ c.tell.new.self c.tell.ensures)
 
@@ -51,6 +51,6 @@ returns-in-Err-hear g c =
     c.in-Ok.running (sym c.running.ensures ∙ c.in-Ok.is) c.rounds-round.result c.rounds-round.ensures
     (c.if-list-heads.false ∙ c.heads.ensures) c.turns-turns.result c.turns-turns.ensures c.open.result c.open.ensures
     c.in_ok-open.open c.in_ok-open.was (sym c.lowest_idle.ensures ∙ c.in_default.is)
-    c.senders-senders.result c.senders-senders.ensures c.put_words.new.list c.put_words.ensures c.alarms_of-alarms.result c.alarms_of-alarms.ensures
+    c.senders-senders.result c.senders-senders.ensures c.put_words.new.list c.put_words.ensures c.alarms-alarms.result c.alarms-alarms.ensures
     c.hear.result c.hear.ensures.answer c.hear.new.table c.hear.ensures.table
-    c.in-Err-hear.refused c.in-Err-hear.is c.withdraw-in-Err-hear.result c.withdraw-in-Err-hear.ensures
+    _ (c.in-Err-hear.is ∙ ap Err c.in-Err-hear.field-0-is) c.withdraw-in-Err-hear.result c.withdraw-in-Err-hear.ensures

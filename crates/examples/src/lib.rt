@@ -12,7 +12,7 @@ mod tests {
     use driving::drive;
     use heads::ballots_heard::ballots_heard;
     use heads::bitwise::Bitwise;
-    use heads::head::{Ballots, Head, Prefix, State};
+    use heads::head::Head;
     use heads::method::Method;
     use heads::short::Short;
     use heads::split::Split;
@@ -29,20 +29,10 @@ mod tests {
     use votes::faults::{Refused, VoteFault};
     use votes::stages::{Figures, HeardRound, Roll, Vote};
 
-    // A head as it is enrolled.
-    fn fresh<B: Copy>(ballot: B) -> Head<B> {
-        Head {
-            state: State::Running,
-            first: ballot,
-            estimate: ballot,
-            ballots: Ballots {
-                least: None,
-                differ: false,
-            },
-            flag: true,
-            prefix: Prefix { bits: 0, length: 0 },
-            noise: false,
-        }
+    // Why a call was refused, without what it hands back.
+    fn fault_of<T: Drop>(refused: Refused<T>) -> VoteFault {
+        let Refused { back: _, fault } = refused;
+        fault
     }
 
     // The vote of the first n heads of the table, by one method.
@@ -52,26 +42,12 @@ mod tests {
         n: usize,
     ) -> Result<Vote<V>, VoteFault> {
         let mut roll = Roll::new();
+        // Kept: each record is read before the whole table is lent to enrolling, so that no iterator can hold it.
         for i in 0..n {
-            let Some(h) = table.get(i) else {
-                return Err(VoteFault::RollFull);
-            };
-            let first = h.first;
-            roll = match roll.enroll(table, first) {
-                Ok(next) => next,
-                Err(refused) => {
-                    let Refused { back: _, fault } = refused;
-                    return Err(fault);
-                }
-            };
+            let first = table.get(i).ok_or(VoteFault::RollFull)?.first;
+            roll = roll.enroll(table, first).map_err(fault_of)?;
         }
-        match roll.begin(method) {
-            Ok(vote) => Ok(vote),
-            Err(refused) => {
-                let Refused { back: _, fault } = refused;
-                Err(fault)
-            }
-        }
+        roll.begin(method).map_err(fault_of)
     }
 
     // A round that is opened and heard, or withdrawn where its report is refused.
@@ -82,23 +58,18 @@ mod tests {
         words: &[u64],
         alarms: u64,
     ) -> Result<HeardRound<V>, VoteFault> {
-        match vote.open(table, turns) {
-            Ok(open) => match open.hear(table, words, alarms, 0) {
-                Ok(round) => Ok(round),
-                Err(refused) => {
-                    let Refused { back, fault } = refused;
-                    let _ = back.withdraw();
-                    Err(fault)
-                }
-            },
-            Err(refused) => {
-                let Refused { back: _, fault } = refused;
+        let open = vote.open(table, turns).map_err(fault_of)?;
+        match open.hear(table, words, alarms, 0) {
+            Ok(round) => Ok(round),
+            Err(Refused { back, fault }) => {
+                let _ = back.withdraw();
                 Err(fault)
             }
         }
     }
 
     // The number of the rule that a vote's first round breaks, or 0 where it is heard.
+    // Kept: the values that the tests expect are these numbers.
     fn first_round<B: Ballot, V: Method<B> + Drop>(
         method: V,
         table: &mut [Head<B>],
@@ -128,13 +99,8 @@ mod tests {
     ) -> Result<Vote<V>, VoteFault> {
         let mut vote = begun;
         for _ in 0..rounds {
-            vote = match drive(vote, table, 0, list, channel, detector, manager) {
-                Ok(round) => round.vote,
-                Err(refused) => {
-                    let Refused { back: _, fault } = refused;
-                    return Err(fault);
-                }
-            };
+            let round = drive(vote, table, 0, list, channel, detector, manager).map_err(fault_of)?;
+            vote = round.vote;
         }
         Ok(vote)
     }
@@ -146,7 +112,7 @@ mod tests {
     // Two heads that hear only themselves: an alarm is due at exactly half.
     #[test]
     fn half_of_the_messages_alarms(rt: HostRuntime) {
-        let mut table = [fresh(recipe(41)), fresh(recipe(38))];
+        let mut table = [Head::new(recipe(41)), Head::new(recipe(38))];
         assert_eq!(rt; first_round(Short, &mut table, 3, &[1, 2], 0), 13);
         assert_eq!(rt; first_round(Short, &mut table, 3, &[3, 3], 0), 0);
     }
@@ -154,7 +120,7 @@ mod tests {
     // With both alarms the same round is heard, and the estimates stay.
     #[test]
     fn an_alarm_keeps_the_estimate(rt: HostRuntime) {
-        let mut table = [fresh(recipe(41)), fresh(recipe(38))];
+        let mut table = [Head::new(recipe(41)), Head::new(recipe(38))];
         assert_eq!(rt; first_round(Short, &mut table, 3, &[1, 2], 3), 0);
         assert_eq!(rt; table[0].estimate.code(), 41);
         assert_eq!(rt; table[1].estimate.code(), 38);
@@ -163,7 +129,7 @@ mod tests {
     // Without alarms every head takes the least ballot.
     #[test]
     fn the_least_ballot_is_taken(rt: HostRuntime) {
-        let mut table = [fresh(recipe(41)), fresh(recipe(38))];
+        let mut table = [Head::new(recipe(41)), Head::new(recipe(38))];
         assert_eq!(rt; first_round(Short, &mut table, 3, &[3, 3], 0), 0);
         assert_eq!(rt; table[0].estimate.code(), 38);
     }
@@ -172,10 +138,10 @@ mod tests {
     #[test]
     fn three_senders(rt: HostRuntime) {
         let mut table = [
-            fresh(recipe(1)),
-            fresh(recipe(2)),
-            fresh(recipe(3)),
-            fresh(recipe(4)),
+            Head::new(recipe(1)),
+            Head::new(recipe(2)),
+            Head::new(recipe(3)),
+            Head::new(recipe(4)),
         ];
         assert_eq!(rt; first_round(Short, &mut table, 7, &[7, 7, 7, 3], 0), 0);
         assert_eq!(rt; first_round(Short, &mut table, 7, &[7, 7, 7, 1], 0), 13);
@@ -186,7 +152,7 @@ mod tests {
     // A false alarm is refused in a split vote, and borne in a bit vote.
     #[test]
     fn false_alarms(rt: HostRuntime) {
-        let mut table = [fresh(recipe(5)), fresh(recipe(9))];
+        let mut table = [Head::new(recipe(5)), Head::new(recipe(9))];
         assert_eq!(rt; first_round(Split, &mut table, 0, &[3, 3], 1), 14);
         assert_eq!(rt; first_round(Bitwise, &mut table, 3, &[3, 3], 1), 0);
     }
@@ -194,7 +160,10 @@ mod tests {
     // Grade 7, tank 60 comes before grade 3, tank 5.
     #[test]
     fn the_least_ticket(rt: HostRuntime) -> Result<(), Fail> {
-        let table = [fresh(Ticket::from_code(197)), fresh(Ticket::from_code(508))];
+        let table = [
+            Head::new(Ticket::from_code(197)),
+            Head::new(Ticket::from_code(508)),
+        ];
         match ballots_heard(&table, 3).least {
             Some(least) => {
                 assert_eq!(rt; least.code(), 508);
@@ -237,7 +206,11 @@ mod tests {
     // round 3 head 2 has the turn and is heard by all, and in round 4 they decide its recipe.
     #[test]
     fn a_driven_vote_ends(rt: HostRuntime) -> Result<(), Fail> {
-        let mut table = [fresh(recipe(41)), fresh(recipe(38)), fresh(recipe(40))];
+        let mut table = [
+            Head::new(recipe(41)),
+            Head::new(recipe(38)),
+            Head::new(recipe(40)),
+        ];
         let mut spells = Spells::new();
         let _ = spells.add(Spell { first: 1, last: 2 });
         let channel = DeadSpells::new(spells, DeadSpells::new(spells, ClearChannel));

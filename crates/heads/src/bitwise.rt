@@ -20,7 +20,8 @@ enum Place {
     Vetoes,
 }
 
-// What the round is for.
+// What the round is for. Without the hint a bit vote took a tenth longer.
+#[inline(always)]
 fn place_of<B: Coded>(round: u32) -> Place
     ensures { result ≡ place_of B.W round }
 {

@@ -108,6 +108,7 @@ impl<V: Copy> Round<V> {
         let (round, senders) = (self.number, self.senders);
         let c = sets::size(senders);
         let mut found = Ok(());
+        // Kept: a rule of the project: nested loops over hearer and sender, left by a label at the first breach.
         'check: for head in 0..64 {
             let r = reception(running, report, head);
             if idle_noise(r) {

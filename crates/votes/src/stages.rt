@@ -24,6 +24,7 @@ pub struct OpenRound<V: Drop> {
     pub(crate) heard: u32,
     pub(crate) method: V,
     pub(crate) senders: u64,
+    // Kept: a rule of the project: an open round is plain numbers, dropped only once this says that it is spent.
     pub(crate) spent: bool,
     ghost few: { n ≤ 64 },
     ghost rounds: { heard ≤ 10000 },

@@ -60,6 +60,7 @@ impl Refusal {
 
 impl VoteFault {
     // The number of the rule, and the values that it names.
+    // Kept: a `From` would say the same under no name, and in no fewer lines.
     pub fn refusal(self) -> Refusal
         ensures { refusal_breach result ≡ vote_breach self }
     {

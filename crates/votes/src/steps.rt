@@ -23,6 +23,7 @@ fn note<B: Copy>(stop: bool, ballots: Ballots<B>, h: Head<B>) -> Head<B>
     }
 }
 
+// Kept: three passes ask for a record to each word; a struct that held the table would have to give it back for the next.
 impl<V: Copy> Round<V> {
     // In a round of ballots every head notes what it heard; the estimates stay.
     fn listen<B: Ballot>(self, table: &mut [Head<B>], report: Report<'_>)

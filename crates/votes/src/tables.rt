@@ -39,6 +39,7 @@ fn decided<B: Copy>(h: &Head<B>) -> Option<B>
 }
 
 // How a head stands.
+// Kept: a `From` of a head would be public, and would say no more.
 fn standing<B: Copy>(h: &Head<B>) -> Standing<B>
     ensures { result ≡ standing_of (Some h.now) }
 {

@@ -37,13 +37,11 @@ pub fn ballots_heard<B: Ballot>(heads: &[Head<B>], word: u64) -> Ballots<B>
     ensures differ { Decides result.differ (TwoHeard heads.now word 64) }
 {
     let mut heard = Ballots::none();
-    let mut from = 0;
-    while let Some(i) = sets::next(word, from) {
-        if i >= heads.len() {
+    for i in sets::members(word) {
+        let Some(head) = heads.get(i) else {
             break;
-        }
-        heard = join(heard, heads[i].estimate);
-        from = i + 1;
+        };
+        heard = join(heard, head.estimate);
     }
     heard
 }

@@ -1,7 +1,13 @@
 #![tactic(auto)]
 // Sets of heads: head i is in a set where bit i of its 64-bit word is 1.
-ghost use Rattle.std.specs.Prelude.{◌≡◌, ℕ, ◌-◌, ◌<◌, ◌≤◌, Bool, true, false, not, ◌&&◌, ◌||◌, ◌==◌, nat_eq};
+ghost use Rattle.std.specs.Prelude.{◌≡◌, ℕ, ◌+◌, ◌-◌, ◌<◌, ◌≤◌, Bool, true, false, not, ◌&&◌, ◌||◌, ◌==◌, nat_eq};
 ghost use Rattle.sets.specs.Sets.{bit, count, word_of, lowest_from};
+ghost use Rattle.sets.specs.Members.{Gives};
+ghost use Rattle.std.specs.Iterator.{at_most};
+
+pub mod walk;
+
+use walk::Members;
 
 // Whether head i is in the set; a number past 63 is in none.
 pub fn has(set: u64, i: usize) -> bool
@@ -65,5 +71,27 @@ pub fn next(set: u64, i: usize) -> Option<usize>
         Some(i + skipped)
     } else {
         None
+    }
+}
+
+// The heads of the set, from the lowest on.
+pub fn members(set: u64) -> Members
+    ensures set { result.set ≡ set }
+    ensures from { result.from ≡ 0 }
+{
+    Members { set, from: 0 }
+}
+
+impl Iterator for Members {
+    type Item = usize;
+
+    ghost next_gives = { Gives };
+
+    ghost remaining = { λ s. at_most (64 - s.from) };
+
+    fn next(&mut self) -> Option<usize> {
+        let i = next(self.set, self.from)?;
+        self.from = i + 1;
+        Some(i)
     }
 }

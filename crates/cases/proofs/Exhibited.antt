@@ -10,7 +10,7 @@ use Rattle.ballots.specs.Kinds.{recipe}
 use Rattle.heads.specs.declared.head.Head.{Head}
 use Rattle.heads.specs.Heard.{ballots_below}
 use Rattle.heads.specs.Rules.{Scheme, fresh}
-use Rattle.parts.specs.Spells.{Shape, spans_below}
+use Rattle.parts.specs.declared.spells.Spell.{Spell}
 use Rattle.channels.specs.Clear.{clear}
 use Rattle.detectors.specs.Exact.{counting}
 use Rattle.detectors.specs.Interference.{disturbed}
@@ -32,8 +32,8 @@ use Rattle.ballots.specs.contracts.recipe.RecipeBallot.TheImpl.{ghosts as recipe
 use Rattle.ballots.specs.contracts.recipe.RecipeCoded.TheImpl.{ghosts as recipeCode}
 
 -- interference in round 1 alone, so that it is not calm
-abbrev disturbance : Shape
-disturbance = record { list = record { first = 1; last = 1 } ∷ []; count = 1 }
+abbrev disturbance : List Spell
+disturbance = record { first = 1; last = 1 } ∷ []
 
 abbrev disturbedly : Parts
 disturbedly = record { channel = clear; detector = disturbed disturbance counting; manager = lowest_turns 0 }
@@ -89,43 +89,43 @@ exhibit s parts stops m k ends e f =
 -- ---- computed
 
 short_3 : standings recipeCode.encoded (drives recipeOrder.earlier short_vote 2 disturbedly no_stops 3 0 (begun pair)) ≡ Ok (Running ∷ Running ∷ [])
-unfolding drives tally all spans_below words alarms early_breach hear_breach senders report_breach after in_state lowest_idle rewrite_from ballots_below bit count word_of first_from
+unfolding drives tally all words alarms early_breach hear_breach senders report_breach after in_state lowest_idle rewrite_from ballots_below bit count word_of first_from
 short_3 = refl
 
 short_4 : standings recipeCode.encoded (drives recipeOrder.earlier short_vote 2 disturbedly no_stops 4 0 (begun pair)) ≡ Ok (Decided 5 ∷ Decided 5 ∷ [])
-unfolding drives tally all spans_below words alarms early_breach hear_breach senders report_breach after in_state lowest_idle rewrite_from ballots_below bit count word_of first_from
+unfolding drives tally all words alarms early_breach hear_breach senders report_breach after in_state lowest_idle rewrite_from ballots_below bit count word_of first_from
 short_4 = refl
 
 short_calm_3 : tally recipeOrder.earlier short_vote disturbedly no_stops 2 two 3 0 (begun pair) 0 ≡ 2
-unfolding drives tally all spans_below words alarms early_breach hear_breach senders report_breach after in_state lowest_idle rewrite_from ballots_below bit count word_of first_from
+unfolding drives tally all words alarms early_breach hear_breach senders report_breach after in_state lowest_idle rewrite_from ballots_below bit count word_of first_from
 short_calm_3 = refl
 
 short_calm_4 : tally recipeOrder.earlier short_vote disturbedly no_stops 2 two 4 0 (begun pair) 0 ≡ 3
-unfolding drives tally all spans_below words alarms early_breach hear_breach senders report_breach after in_state lowest_idle rewrite_from ballots_below bit count word_of first_from
+unfolding drives tally all words alarms early_breach hear_breach senders report_breach after in_state lowest_idle rewrite_from ballots_below bit count word_of first_from
 short_calm_4 = refl
 
 bit_27 : standings recipeCode.encoded (drives recipeOrder.earlier bit_vote 2 disturbedly no_stops 27 0 (begun pair)) ≡ Ok (Running ∷ Running ∷ [])
-unfolding drives tally all spans_below words alarms early_breach hear_breach senders report_breach after in_state lowest_idle rewrite_from ballots_below bit count word_of first_from
+unfolding drives tally all words alarms early_breach hear_breach senders report_breach after in_state lowest_idle rewrite_from ballots_below bit count word_of first_from
 bit_27 = refl
 
 bit_28 : standings recipeCode.encoded (drives recipeOrder.earlier bit_vote 2 disturbedly no_stops 28 0 (begun pair)) ≡ Ok (Decided 5 ∷ Decided 5 ∷ [])
-unfolding drives tally all spans_below words alarms early_breach hear_breach senders report_breach after in_state lowest_idle rewrite_from ballots_below bit count word_of first_from
+unfolding drives tally all words alarms early_breach hear_breach senders report_breach after in_state lowest_idle rewrite_from ballots_below bit count word_of first_from
 bit_28 = refl
 
 bit_calm_27 : tally recipeOrder.earlier bit_vote disturbedly no_stops 2 two 27 0 (begun pair) 0 ≡ 26
-unfolding drives tally all spans_below words alarms early_breach hear_breach senders report_breach after in_state lowest_idle rewrite_from ballots_below bit count word_of first_from
+unfolding drives tally all words alarms early_breach hear_breach senders report_breach after in_state lowest_idle rewrite_from ballots_below bit count word_of first_from
 bit_calm_27 = refl
 
 bit_calm_28 : tally recipeOrder.earlier bit_vote disturbedly no_stops 2 two 28 0 (begun pair) 0 ≡ 27
-unfolding drives tally all spans_below words alarms early_breach hear_breach senders report_breach after in_state lowest_idle rewrite_from ballots_below bit count word_of first_from
+unfolding drives tally all words alarms early_breach hear_breach senders report_breach after in_state lowest_idle rewrite_from ballots_below bit count word_of first_from
 bit_calm_28 = refl
 
 split_calm_43 : tally recipeOrder.earlier split_vote clearly stop_in_seventeen 2 two 43 0 (begun pair) 0 ≡ 26
-unfolding drives tally all spans_below words alarms early_breach hear_breach senders report_breach after in_state lowest_idle rewrite_from ballots_below bit count word_of first_from
+unfolding drives tally all words alarms early_breach hear_breach senders report_breach after in_state lowest_idle rewrite_from ballots_below bit count word_of first_from
 split_calm_43 = refl
 
 split_calm_44 : tally recipeOrder.earlier split_vote clearly stop_in_seventeen 2 two 44 0 (begun pair) 0 ≡ 27
-unfolding drives tally all spans_below words alarms early_breach hear_breach senders report_breach after in_state lowest_idle rewrite_from ballots_below bit count word_of first_from
+unfolding drives tally all words alarms early_breach hear_breach senders report_breach after in_state lowest_idle rewrite_from ballots_below bit count word_of first_from
 split_calm_44 = refl
 
 pub shown : Exhibits

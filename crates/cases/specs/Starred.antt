@@ -9,7 +9,6 @@ use Rattle.heads.specs.Rules.{Scheme, fresh}
 use Rattle.heads.specs.Rules.Scheme.{short, bitwise, split}
 use Rattle.votes.specs.declared.stages.Standing.{Standing}
 use Rattle.votes.specs.declared.stages.Standing.TheVariants.{Running, Stopped, Decided}
-
 use Rattle.channels.specs.Clear.{clear}
 use Rattle.detectors.specs.Exact.{counting}
 use Rattle.managers.specs.Turns.{lowest_turns, rotation_turns}

@@ -1,5 +1,6 @@
 -- The channel on which the nearest sender drowns the others.
-use Rattle.std.specs.Prelude.{◌≡◌, ℕ, zero, suc, ◌+◌, ◌-◌, ◌<◌, Bool, true, false, cond, not, ◌&&◌, ◌||◌, List, ◌++◌, length, replicate, Some, None, Option, ◌==◌, nat_le, nat_lt, slice_index}
+use Rattle.std.specs.Prelude.{◌≡◌, ℕ, ◌+◌, ◌-◌, ◌<◌, Bool, true, false, cond, not, ◌&&◌, ◌||◌, List, ◌++◌, length, replicate, Some, None, Option, ◌==◌, nat_le, nat_lt, slice_index}
+use Rattle.std.specs.List.{list_all}
 use Rattle.sets.specs.Sets.{bit, count, word_of}
 use Rattle.parts.specs.Ranges.{at_head}
 use Rattle.parts.specs.Channels.{Meaning}
@@ -31,12 +32,11 @@ capture positions = record { rule = λ round hearer senders. cond (at_head round
 
 -- ---- positions that fit: of 1 to 64 heads, 0 to 999 each
 
-abbrev pub all_placed : List ℕ → ℕ → Bool
-all_placed positions zero = true
-all_placed positions (suc k) = nat_le (slice_index positions k) 999 && all_placed positions k
+abbrev pub all_placed : List ℕ → Bool
+all_placed positions = list_all (λ p. nat_le p 999) positions
 
 abbrev pub placed : List ℕ → Bool
-placed positions = (nat_le 1 (length positions) && nat_le (length positions) 64) && all_placed positions (length positions)
+placed positions = (nat_le 1 (length positions) && nat_le (length positions) 64) && all_placed positions
 
 -- heads past the list stand at 0
 abbrev pub filled_up : List ℕ → List ℕ

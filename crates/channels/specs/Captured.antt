@@ -1,15 +1,16 @@
 -- The channel on which the nearest sender is heard.
 use Rattle.std.specs.Prelude.{◌≡◌, ℕ, ◌^◌, ◌<◌, true, false, not, ◌&&◌, ◌||◌, List, ◌==◌}
 use Rattle.std.proofs.Common.{sym, ap, subst, ◌∙◌, ⊎_elim, arith}
-use Rattle.std.proofs.lemmas.Bool.{and_parts, and_from, and_left, and_right, or_left, or_right, eqb-true, eq-eqb, ne_eqb, cond-true, cond-false, cond_both, cases_Bool, cases_lt, cases_eq, not_from_false, true≢false}
+use Rattle.std.proofs.lemmas.Bool.{and_parts, and_from, and_left, and_right, or_left, or_right, eqb-true, eq-eqb, ne_eqb, cond-true, cond-false, cond_both, cases_Bool, cases_eq, not_from_false, true≢false}
 use Rattle.sets.specs.Sets.{bit, word_of, Within, Lone}
-use Rattle.sets.proofs.Words.{bit_word, bit_past, none_within}
+use Rattle.sets.proofs.Words.{bit_word, none_within}
 use Rattle.sets.proofs.Lone.{count_none, none_counted, lone_same}
 use Rattle.parts.specs.Ranges.{at_head}
 use Rattle.parts.specs.Channels.{Keeps}
 use Rattle.channels.specs.Own.{is_own}
 use Rattle.channels.specs.Capture.{is_other, before, is_nearest, First, capture}
-use Rattle.channels.specs.Keeping.{head_below, beside_within, beside_own}
+use Rattle.parts.proofs.Heads.{head_below, sender_below}
+use Rattle.channels.specs.Keeping.{beside_within, beside_own}
 use Rattle.channels.specs.Nearest.{not_itself, other_way}
 
 other_sends : (h s i : ℕ) → is_other h s i ≡ true → bit s i ≡ true
@@ -37,7 +38,7 @@ nearest_none positions h s f i l = and_left (is_other h s i) _ (f i l)
 -- a lone sender is heard by itself, and is the nearest to all others
 lone_heard : (positions : List ℕ) (h s : ℕ) → s < 2 ^ 64 → Lone s → Within s (word_of 64 (λ i. is_own h s i || is_nearest positions h s i))
 lone_heard positions h s b l i e =
-    let in' : i < 64 = ⊎_elim (λ m. m) (λ m. absurd (true≢false (sym e ∙ bit_past 64 s i b m))) (cases_lt i 64) in
+    let in' = sender_below s i b e in
     bit_word 64 _ i in' ∙ ⊎_elim
     (λ q. or_left (is_own h s i) _ (and_from (bit s i) (i == h) e (eq-eqb i h q)))
     (λ ne. or_right (is_own h s i) _ (nearest_from positions h s i (and_from (bit s i) (not (i == h)) e (not_from_false (i == h) (ne_eqb i h ne)))

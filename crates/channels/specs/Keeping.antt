@@ -1,20 +1,19 @@
 -- The channels keep the sentences of their meanings.
-use Rattle.std.specs.Prelude.{◌≡◌, ℕ, ◌<◌, ◌≤◌, Bool, true, cond, ◌||◌, List, ◌==◌, nat_le, nat_lt, refl}
+use Rattle.std.specs.Prelude.{◌≡◌, ℕ, ◌<◌, ◌≤◌, Bool, true, cond, ◌||◌, List, ◌==◌, nat_le, refl}
 use Rattle.std.proofs.Common.{◌∙◌, ⊎_elim, arith}
-use Rattle.std.proofs.lemmas.Bool.{and_parts, and_from, or_cases, or_left, ltb-true, lt-leb, eq-eqb, cond-true, cond-false, cond_both}
+use Rattle.std.proofs.lemmas.Bool.{and_parts, and_from, or_cases, or_left, lt-leb, eq-eqb, cond-true, cond-false, cond_both}
 use Rattle.sets.specs.Sets.{bit, word_of, Within}
 use Rattle.sets.proofs.Words.{bit_word, none_within, word_within}
-use Rattle.parts.specs.Ranges.{in_time, at_head}
+use Rattle.parts.specs.Ranges.{at_head}
 use Rattle.parts.specs.Channels.{Meaning, Keeps}
-use Rattle.parts.specs.Spells.{Shape, spanned, past}
+use Rattle.parts.specs.declared.spells.Spell.{Spell}
+use Rattle.parts.specs.Spells.{spanned, past}
+use Rattle.parts.proofs.Heads.{head_below}
 use Rattle.parts.proofs.Spanning.{none_past}
 use Rattle.channels.specs.Own.{is_own, own_of}
 use Rattle.channels.specs.Clear.{clear}
 use Rattle.channels.specs.Dead.{deadened}
 use Rattle.channels.specs.Recorded.{rounds_of, word_at, played, recorded}
-
-pub head_below : (round hearer : ℕ) → at_head round hearer ≡ true → hearer < 64
-head_below round hearer a = ltb-true hearer 64 (and_parts (in_time round) (nat_lt hearer 64) a).1
 
 -- ---- a head's own message
 
@@ -71,7 +70,7 @@ recorded_keeps words n = record {
     here : ℕ → ℕ → ℕ → ℕ
     here r h s = cond (nat_le r rounds) (told r h s) s
 
-pub deadened_keeps : (spells : Shape) (m : Meaning) → past spells ≤ 10001 → Keeps m → Keeps (deadened spells m)
+pub deadened_keeps : (spells : List Spell) (m : Meaning) → past spells ≤ 10001 → Keeps m → Keeps (deadened spells m)
 deadened_keeps spells m most k = record {
   some = omega (arith, k.some);
   most = omega (arith, k.most);
@@ -81,7 +80,7 @@ deadened_keeps spells m most k = record {
   own = λ r h s a o. cond_both (spanned spells r) (alone r h s) (m.rule r h s) (λ w. bit w h ≡ true)
       (λ _. rw (cond-true (at_head r h) (own_of h s) 0 a) (own_heard h s (head_below r h a) o))
       (λ _. k.own r h s a o);
-  lone = λ r h s b a c l. rw (none_past spells.list spells.count r (omega arith)) (k.lone r h s b a (omega arith) l);
+  lone = λ r h s b a c l. rw (none_past spells r (omega arith)) (k.lone r h s b a (omega arith) l);
   outside = λ r h s a. cond_both (spanned spells r) (alone r h s) (m.rule r h s) (λ w. w ≡ 0)
       (λ _. cond-false (at_head r h) (own_of h s) 0 a)
       (λ _. k.outside r h s a);

@@ -1,6 +1,7 @@
 -- The search for the nearest sender, step by step.
-use Rattle.std.specs.Prelude.{◌≡◌, ℕ, ◌+◌, ◌<◌, ◌≤◌, true, false, ◌&&◌, ◌⊎◌, List, Some, None, Option, ◌==◌, ◌≢◌, nat_lt}
-use Rattle.std.proofs.Common.{sym, ap, subst, ◌∙◌, inl, inr, ⊎_elim, arith}
+use Rattle.std.specs.Prelude.{◌≡◌, ℕ, ◌+◌, ◌<◌, ◌≤◌, true, false, ◌&&◌, ◌⊎◌, List, Some, None, Option, ◌==◌, ◌≢◌, nat_lt, zero, suc, fold, refl}
+use Rattle.std.specs.List.{range_with_len}
+use Rattle.std.proofs.Common.{sym, ap, subst, ◌∙◌, inl, inr, ⊎_elim, add-zero, arith}
 use Rattle.std.proofs.lemmas.Bool.{and_parts, and_from, and_left, and_right, and_cases, or_from, or_parts, or_left, or_right, ltb-true, ltb-false, le-ltb, lt-ltb, eq-eqb, ne_eqb, cond_both, cases_lt, cases_eq, true≢false}
 use Rattle.channels.specs.Capture.{apart, is_other, before, nearer, closer, Found}
 
@@ -81,3 +82,12 @@ pub found_more : (positions : List ℕ) (h s k : ℕ) (o r : Option ℕ) → r �
 found_more positions h s k o r e f =
     rw e
     (cond_both (is_other h s k && nearer positions h k o) (Some k) o (Step positions h s k) (λ t. taken positions h s k o t f) (λ t. passed positions h s k o t f))
+
+-- ---- all heads, one after the other
+
+pub found_fold : (positions : List ℕ) (h s k n : ℕ) (o : Option ℕ) → Found positions h s k o → Found positions h s (k + n) (fold (closer positions h s) o (range_with_len k n))
+found_fold positions h s k zero o f = rw add-zero f
+found_fold positions h s k (suc n) o f =
+    let next : (k + 1) + n ≡ k + suc n = omega arith in
+    subst (λ (m : ℕ). Found positions h s m (fold (closer positions h s) o (range_with_len k (suc n)))) next
+    (found_fold positions h s (k + 1) n (closer positions h s o k) (found_more positions h s k o _ refl f))

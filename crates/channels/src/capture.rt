@@ -23,14 +23,9 @@ fn is_placed(position: u16) -> bool
 
 // Whether each of the positions is.
 fn all_placed(positions: &[u16]) -> bool
-    ensures { result ≡ all_placed positions.now (length positions.now) }
+    ensures { result ≡ all_placed positions.now }
 {
-    for i in 0..positions.len() {
-        if !is_placed(positions[i]) {
-            return false;
-        }
-    }
-    true
+    positions.iter().all(|position| is_placed(*position))
 }
 
 // The positions of all 64 heads; those past the list stand at 0.
@@ -39,9 +34,7 @@ fn filled_up(positions: &[u16]) -> [u16; 64]
     ensures { result ≡ filled_up positions.now }
 {
     let mut table = [0; 64];
-    for i in 0..positions.len() {
-        table[i] = positions[i];
-    }
+    table[..positions.len()].copy_from_slice(positions);
     table
 }
 
@@ -63,7 +56,7 @@ impl CaptureChannel {
     fn position(&self, head: usize) -> u16
         ensures { result ≡ slice_index self.now.positions head }
     {
-        if head < 64 { self.positions[head] } else { 0 }
+        self.positions.get(head).copied().unwrap_or(0)
     }
 
     // How far apart two heads stand.
@@ -77,10 +70,7 @@ impl CaptureChannel {
     fn nearer(&self, hearer: usize, i: usize, found: Option<usize>) -> bool
         ensures { result ≡ nearer self.now.positions hearer i found }
     {
-        match found {
-            None => true,
-            Some(best) => self.apart(hearer, i) < self.apart(hearer, best),
-        }
+        found.is_none_or(|best| self.apart(hearer, i) < self.apart(hearer, best))
     }
 
     // The nearest so far, once head i is looked at.
@@ -98,11 +88,8 @@ impl CaptureChannel {
     fn nearest(&self, hearer: usize, senders: u64) -> Option<usize>
         ensures { Found self.now.positions hearer senders 64 result }
     {
-        let mut found = None;
-        for i in 0..64 {
-            found = self.closer(hearer, senders, found, i);
-        }
-        found
+        // Kept: a fold, since the clauses of `min_by_key` do not say that it takes the first of the least.
+        (0..64).fold(None, |found, i| self.closer(hearer, senders, found, i))
     }
 
     // The hearer, if it sends, and the nearest other sender.

@@ -10,6 +10,7 @@ use parts::ranges::at_head;
 use parts::words::Words;
 
 // A list of n words a round: word h of a round has those that head h hears in it.
+// Kept: no reader shared with recorded alarms: theirs has one word a round, and each part would owe an invariant for it.
 #[derive(Clone, Copy)]
 pub struct RecordedChannel<S> {
     words: S,

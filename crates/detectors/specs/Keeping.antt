@@ -7,7 +7,8 @@ use Rattle.heads.specs.declared.alarms.Class.TheVariants.{Zero, Majority}
 use Rattle.heads.specs.Alarms.{due_by}
 use Rattle.parts.specs.Ranges.{counted}
 use Rattle.parts.specs.Detectors.{Meaning, Keeps}
-use Rattle.parts.specs.Spells.{Shape, spanned, past}
+use Rattle.parts.specs.declared.spells.Spell.{Spell}
+use Rattle.parts.specs.Spells.{spanned, past}
 use Rattle.parts.proofs.Spanning.{none_past}
 use Rattle.detectors.specs.Exact.{counting, squelch}
 use Rattle.detectors.specs.Recorded.{rounds_of, noted, recorded}
@@ -46,11 +47,11 @@ recorded_keeps words class = record {
   outside = λ r h c t b. and_left (counted r h c t) (due_by class c t || noted words r h) b;
 }
 
-pub disturbed_keeps : (spells : Shape) (m : Meaning) → past spells ≤ 10001 → Keeps m → Keeps (disturbed spells m)
+pub disturbed_keeps : (spells : List Spell) (m : Meaning) → past spells ≤ 10001 → Keeps m → Keeps (disturbed spells m)
 disturbed_keeps spells m most k = record {
   some = omega (arith, k.some);
   most = omega (arith, k.most);
   duly = λ r h c t b d. cond_both (spanned spells r) (counted r h c t) (m.rule r h c t) (λ a. a ≡ true) (λ _. b) (λ _. k.duly r h c t b d);
-  quietly = λ r h c t q e. k.quietly r h c t (omega arith) (rw (none_past spells.list spells.count r (omega arith)) at e);
+  quietly = λ r h c t q e. k.quietly r h c t (omega arith) (rw (none_past spells r (omega arith)) at e);
   outside = λ r h c t b. cond_both (spanned spells r) (counted r h c t) (m.rule r h c t) (λ a. a ≡ false) (λ _. b) (λ _. k.outside r h c t b);
 }

@@ -17,14 +17,22 @@ lowest_of running = lowest (bit running) 64
 abbrev pub next_of : ℕ → ℕ → Option ℕ
 next_of running start = or_else (lowest_from (bit running) start (64 - start)) (lowest_of running)
 
--- in every round the turn of the head that is picked
-abbrev pub giving : (ℕ → Option ℕ) → ℕ → Meaning
-giving pick told = record { rule = λ round running. cond (in_time round) (turn_of (pick running)) 0; single = 1; told = told }
+-- ---- managers that give turns by the round last told and by the running heads
 
--- the lowest running head
+-- in every round the turns that are given
+abbrev pub by_last_told : (ℕ → ℕ → ℕ) → ℕ → ℕ → Meaning
+by_last_told gives single told = record { rule = λ round running. cond (in_time round) (gives told running) 0; single = single; told = told }
+
+-- to the lowest running head
+abbrev pub lowest_gives : ℕ → ℕ → ℕ
+lowest_gives told running = turn_of (lowest_of running)
+
 abbrev pub lowest_turns : ℕ → Meaning
-lowest_turns told = giving lowest_of told
+lowest_turns told = by_last_told lowest_gives 1 told
 
--- the first running head from the round last told, mod 64
+-- to the first running head from the round last told, mod 64
+abbrev pub rotation_gives : ℕ → ℕ → ℕ
+rotation_gives told running = turn_of (next_of running (told % 64))
+
 abbrev pub rotation_turns : ℕ → Meaning
-rotation_turns told = giving (λ running. next_of running (told % 64)) told
+rotation_turns told = by_last_told rotation_gives 1 told

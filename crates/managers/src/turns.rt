@@ -6,10 +6,7 @@ ghost use Rattle.managers.specs.Turns.{turn_of, lowest_of, next_of};
 pub(crate) fn turn_of(head: Option<usize>) -> u64
     ensures { result ≡ turn_of head }
 {
-    match head {
-        Some(i) => sets::one(i),
-        None => 0,
-    }
+    head.map_or(0, sets::one)
 }
 
 // The lowest running head.
@@ -23,8 +20,5 @@ pub(crate) fn lowest_of(running: u64) -> Option<usize>
 pub(crate) fn next_of(running: u64, start: usize) -> Option<usize>
     ensures { result ≡ next_of running start }
 {
-    match sets::next(running, start) {
-        Some(i) => Some(i),
-        None => lowest_of(running),
-    }
+    sets::next(running, start).or_else(|| lowest_of(running))
 }

@@ -1,51 +1,37 @@
 -- Spells: the rounds in which a layer has its effect.
-use Rattle.std.specs.Prelude.{ℕ, zero, suc, ◌+◌, max, Bool, false, cond, ◌&&◌, ◌||◌, List, Ok, Err, Result, nat_le, nat_lt, slice_set}
-use mathlib.Core.List.{replicate}
+use Rattle.std.specs.Prelude.{ℕ, ◌+◌, max, Bool, cond, ◌&&◌, List, [], ◌∷◌, ◌++◌, length, Ok, Err, Result, nat_le, nat_lt, take}
+use Rattle.std.specs.List.{list_any}
 use Rattle.parts.specs.declared.faults.PartFault.{PartFault}
 use Rattle.parts.specs.declared.faults.PartFault.TheVariants.{Unfit}
 use Rattle.parts.specs.declared.spells.Spell.{Spell}
 use Rattle.parts.specs.declared.spells.Spells.{Spells}
-use Rattle.parts.specs.Spans.{fits, spell_at}
+use Rattle.parts.specs.Spans.{fits}
 
--- the spells as plain values: the first count of the list
-pub record Shape : Type 0 where
-  pub list : List Spell
-  pub count : ℕ
-
-abbrev pub shape : Spells → Shape
-shape s = record { list = s.list; count = s.count }
-
-abbrev pub no_spells : Shape
-no_spells = record { list = replicate 16 (record { first = 0; last = 0 }); count = 0 }
+-- the spells in the order in which they were added
+abbrev pub listed : Spells → List Spell
+listed s = take s.count s.list
 
 -- ---- one spell more
 
-abbrev pub addable : Shape → Spell → Bool
-addable s x = fits x && nat_lt s.count 16
+abbrev pub addable : List Spell → Spell → Bool
+addable spells x = fits x && nat_lt (length spells) 16
 
-abbrev pub added : Shape → Spell → Result (Unit {0}) PartFault
-added s x = cond (addable s x) (Ok tt) (Err Unfit)
+abbrev pub added : List Spell → Spell → Result (Unit {0}) PartFault
+added spells x = cond (addable spells x) (Ok tt) (Err Unfit)
 
-abbrev pub added_to : Shape → Spell → Shape
-added_to s x = cond (addable s x) (record { list = slice_set s.list s.count x; count = s.count + 1 }) s
+abbrev pub added_to : List Spell → Spell → List Spell
+added_to spells x = cond (addable spells x) (spells ++ (x ∷ [])) spells
 
 -- ---- the rounds that they span
 
 abbrev pub spans_at : Spell → ℕ → Bool
 spans_at x round = nat_le x.first round && nat_le round x.last
 
--- the round lies in one of the first k spells
-unfoldable pub spans_below : List Spell → ℕ → ℕ → Bool
-spans_below list zero round = false
-spans_below list (suc k) round = spans_at (spell_at list k) round || spans_below list k round
+-- the round lies in one of the spells
+abbrev pub spanned : List Spell → ℕ → Bool
+spanned spells round = list_any (λ x. spans_at x round) spells
 
-abbrev pub spanned : Shape → ℕ → Bool
-spanned s round = spans_below s.list s.count round
-
--- 1 + the latest last round of the first k spells; 0 where there is none
-unfoldable pub past_below : List Spell → ℕ → ℕ
-past_below list zero = 0
-past_below list (suc k) = max (past_below list k) ((spell_at list k).last + 1)
-
-abbrev pub past : Shape → ℕ
-past s = past_below s.list s.count
+-- 1 + the latest last round; 0 where there is no spell
+abbrev pub past : List Spell → ℕ
+past [] = 0
+past (x ∷ spells) = max (x.last + 1) (past spells)

@@ -6,6 +6,8 @@ pub trait Channel {
     ghost meaning: { Self → Meaning };
 
     // Those of the senders that the hearer hears.
+    // Kept: each channel tests the range itself, as its rule says what is heard out of range too; a default method around
+    // it would add a second method and a second rule to every channel.
     fn heard(&self, round: u32, hearer: usize, senders: u64) -> u64
         ensures { result ≡ (meaning self.now).rule round hearer senders };
 

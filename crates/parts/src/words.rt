@@ -2,6 +2,7 @@
 ghost use Rattle.std.specs.Prelude.{◌≡◌, ℕ, List, length, slice_index};
 
 // A list of 64-bit words.
+// Kept: a trait and not a slice, since a caller may keep its list elsewhere.
 pub trait Words: Copy {
     ghost listed: { Self → List ℕ };
 
@@ -27,10 +28,6 @@ impl<'a> Words for WordSlice<'a> {
     }
 
     fn word(&self, i: usize) -> u64 {
-        if i < self.words.len() {
-            self.words[i]
-        } else {
-            0
-        }
+        self.words.get(i).copied().unwrap_or(0)
     }
 }

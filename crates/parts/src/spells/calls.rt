@@ -1,17 +1,10 @@
 // Making spells, and asking them.
-ghost use Rattle.std.specs.Prelude.{◌≡◌, max};
+ghost use Rattle.std.specs.Prelude.{◌≡◌, []};
 ghost use Rattle.parts.specs.Spans.{fits};
-ghost use Rattle.parts.specs.Spells.{no_spells, shape, added, added_to, spans_at, spanned, past};
+ghost use Rattle.parts.specs.Spells.{listed, added, added_to, spans_at, spanned, past};
 
 use crate::faults::PartFault;
 use crate::spells::{Spell, Spells};
-
-// The later of two rounds.
-pub fn later(a: u32, b: u32) -> u32
-    ensures { result ≡ max a b }
-{
-    if a < b { b } else { a }
-}
 
 impl Spell {
     // Whether the spell starts with round 1 at the earliest and ends with round 10,000 at the latest.
@@ -31,7 +24,7 @@ impl Spell {
 
 impl Spells {
     pub fn new() -> Spells
-        ensures { shape result ≡ no_spells }
+        ensures { listed result ≡ [] }
     {
         Spells {
             list: [Spell { first: 0, last: 0 }; 16],
@@ -41,8 +34,8 @@ impl Spells {
 
     // One spell more, or a refusal where it does not fit or 16 are listed.
     pub fn add(&mut self, spell: Spell) -> Result<(), PartFault>
-        ensures answer { result ≡ added (shape self.old) spell }
-        ensures spells { shape self.new ≡ added_to (shape self.old) spell }
+        ensures answer { result ≡ added (listed self.old) spell }
+        ensures spells { listed self.new ≡ added_to (listed self.old) spell }
     {
         if !spell.fits() || self.count >= 16 {
             return Err(PartFault::Unfit);
@@ -52,26 +45,27 @@ impl Spells {
         Ok(())
     }
 
+    // The spells, as a slice.
+    fn listed(&self) -> &[Spell]
+        ensures { result.now ≡ listed self.now }
+    {
+        &self.list[..self.count]
+    }
+
     // Whether the round lies in one of the spells.
     pub fn span(&self, round: u32) -> bool
-        ensures { result ≡ spanned (shape self.now) round }
+        ensures { result ≡ spanned (listed self.now) round }
     {
-        for i in 0..self.count {
-            if self.list[i].spans(round) {
-                return true;
-            }
-        }
-        false
+        self.listed().iter().any(|spell| spell.spans(round))
     }
 
     // The round after the latest last round; 0 where there is no spell.
     pub fn after(&self) -> u32
-        ensures { result ≡ past (shape self.now) }
+        ensures { result ≡ past (listed self.now) }
     {
-        let mut end = 0;
-        for i in 0..self.count {
-            end = later(end, self.list[i].last + 1);
-        }
-        end
+        self.listed()
+            .iter()
+            .max_by_key(|spell| spell.last)
+            .map_or(0, |latest| latest.last + 1)
     }
 }

@@ -1,5 +1,6 @@
 -- The text of a listing.
 use Rattle.std.specs.Prelude.{ℕ, ◌+◌, List, [], ◌∷◌, ◌++◌, Some, None, Ok, Err, codes, decimal, Option, Result}
+use Rattle.ballots.specs.Faults.{Breach}
 use Rattle.votes.specs.declared.stages.Figures.{Figures}
 use Rattle.recordings.specs.declared.listing.Outcome.{Outcome}
 use Rattle.recordings.specs.declared.listing.Outcome.TheVariants as outcome
@@ -30,9 +31,12 @@ unfoldable pub head_line : ℕ → Outcome → List ℕ
 head_line i o = (codes "H" ▹ decimal i ▹ outcome_text o) ++ codes "\n"
 
 -- F: number, byte, round, head, other
-unfoldable pub fault_line : Located → List ℕ
-fault_line l =
-    (codes "F" ▹ decimal l.breach.number ▹ decimal l.byte ▹ or_dash l.breach.round ▹ or_dash l.breach.head ▹ or_dash l.breach.other) ++ codes "\n"
+unfoldable pub refusal_line : Option ℕ → Breach → List ℕ
+refusal_line byte b =
+    (codes "F" ▹ decimal b.number ▹ or_dash byte ▹ or_dash b.round ▹ or_dash b.head ▹ or_dash b.other) ++ codes "\n"
+
+abbrev pub fault_line : Located → List ℕ
+fault_line l = refusal_line (Some l.byte) l.breach
 
 unfoldable pub round_lines : List Figures → List ℕ
 round_lines [] = []

@@ -1,45 +1,24 @@
 // The whole listing on a page of the caller's, so that nothing is allocated.
 ghost use Rattle.std.specs.Prelude.{◌≡◌, ◌≤◌, length, take, IfOk, if◌then◌else◌, None};
-ghost use Rattle.recordings.specs.Rooms.{over, over_if};
-ghost use Rattle.listings.specs.Texts.{listing_text, round_lines, head_lines};
-ghost use Rattle.listings.specs.Pages.{written, fitting, answered};
+ghost use Rattle.sinks.specs.Overs.{over};
+ghost use Rattle.recordings.specs.Rooms.{over_if};
+ghost use Rattle.listings.specs.Texts.{listing_text};
+ghost use Rattle.listings.specs.Pages.{fitting, answered};
 ghost use Rattle.recordings.specs.Files.{played};
 ghost use Rattle.recordings.specs.Slices.{told_by, heads_of, roomy};
 
-mod lines;
-mod numbers;
-
-use lines::{put_fault, put_head, put_round};
+use crate::text::write_all;
 use recordings::faults::NoRoom;
-use recordings::listing::{Outcome, Summary};
+use recordings::listing::{Outcome, Summary, Told};
 use recordings::slices::play;
+use sinks::front::Front;
 use votes::stages::Figures;
-
-fn put_rounds(page: &mut [u8], start: Option<usize>, rounds: &[Figures]) -> Option<usize>
-    ensures { record { place = result; bytes = page.new } ≡ written (round_lines rounds.now) start page.old }
-{
-    let mut place = start;
-    for i in 0..rounds.len() {
-        place = put_round(page, place, rounds[i]);
-    }
-    place
-}
-
-fn put_heads(page: &mut [u8], start: Option<usize>, heads: &[Outcome]) -> Option<usize>
-    ensures { record { place = result; bytes = page.new } ≡ written (head_lines 0 heads.now) start page.old }
-{
-    let mut place = start;
-    for i in 0..heads.len() {
-        place = put_head(page, place, i, heads[i]);
-    }
-    place
-}
 
 // The first n of a list, or all where there are fewer.
 fn front<T>(list: &[T], n: usize) -> &[T]
     ensures { result.now ≡ take n list.now }
 {
-    if n < list.len() { &list[0..n] } else { list }
+    list.get(0..n).unwrap_or(list)
 }
 
 // Writes the listing of a played vote to the page: a line for every round heard, and then a line for every head, or for
@@ -55,12 +34,16 @@ pub fn write_listing(
     ensures answer { answered result ≡ fitting (listing_text (told_by summary rounds.now heads.now)) page.old }
     ensures page { page.new ≡ over (listing_text (told_by summary rounds.now heads.now)) page.old }
 {
-    let place = put_rounds(page, Some(0), front(rounds, summary.rounds));
-    let end = match summary.ending {
-        Ok(n) => put_heads(page, place, front(heads, n)),
-        Err(fault) => put_fault(page, place, fault),
+    let mut out = Front {
+        list: page,
+        filled: 0,
     };
-    end.ok_or(NoRoom)
+    let told = Told {
+        rounds: front(rounds, summary.rounds),
+        ending: summary.ending.map(|n| front(heads, n)),
+    };
+    write_all(&mut out, told)?;
+    Ok(out.filled)
 }
 
 // Plays the bytes of a vote file, and writes its listing to the page. The rounds and the heads are left in the slices, as
@@ -77,8 +60,6 @@ pub fn list_vote(
     ensures rounds { rounds.new ≡ over_if (roomy rounds.old heads.old) (played bytes.now).rounds rounds.old }
     ensures heads { heads.new ≡ over_if (roomy rounds.old heads.old) (heads_of (played bytes.now)) heads.old }
 {
-    match play(bytes, rounds, heads) {
-        Ok(summary) => write_listing(summary, rounds, heads, page),
-        Err(no_room) => Err(no_room),
-    }
+    let summary = play(bytes, rounds, heads)?;
+    write_listing(summary, rounds, heads, page)
 }

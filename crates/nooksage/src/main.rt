@@ -4,7 +4,7 @@ use listings::text::text_of;
 use recordings::play::play;
 use std::alloc::AllocError;
 use std::io;
-use std::io::{ErrorKind, Read, Write};
+use std::io::{Read, Write};
 
 // The bytes of the longest recording that can be played whole: 64 heads over 10,000 rounds. Room for as many is asked
 // for at once, and only what is read is ever touched.
@@ -13,19 +13,7 @@ const ROOM: usize = 133 + 538 * 10_000;
 // The whole of standard input.
 fn read_recording(rt: &HostRuntime) -> io::Result<Vec<u8>> {
     let mut bytes = Vec::with_capacity(rt.alloc(), ROOM)?;
-    let mut part = [0u8; 65536];
-    let mut input = rt.stdin();
-    for _ in 0..u64::MAX {
-        match input.read(&mut part) {
-            Ok(0) => break,
-            Ok(n) => bytes.extend_from_slice(&part[0..n])?,
-            Err(e) => {
-                if e.kind() != ErrorKind::Interrupted {
-                    return Err(e);
-                }
-            }
-        }
-    }
+    rt.stdin().read_to_end(&mut bytes)?;
     Ok(bytes)
 }
 

@@ -1,3 +1,3 @@
-pub mod Overs
-pub mod Plays
 pub mod Enrolls
+pub mod Headers
+pub mod Plays

@@ -1,9 +1,7 @@
 -- One record played: what the calls of the vote answered is what the file's definitions say.
-use Rattle.std.proofs.Common.{◌≡◌, ℕ, zero, suc, ◌+◌, ◌<◌, ◌≤◌, Bool, true, false, cond, leb, List, [], ◌∷◌, ◌++◌, length, IfOk, Some, None, Ok, Err, Option, Result, sym, refl, ap, ◌∙◌, subst, ap₂, arith, length-append}
-use Rattle.std.proofs.lemmas.Bool.{le-leb, lt-leb}
-use Rattle.std.specs.declared.alloc.AllocError.{AllocError}
+use Rattle.std.proofs.Common.{◌≡◌, ℕ, zero, suc, ◌+◌, ◌<◌, ◌≤◌, Bool, true, false, cond, leb, List, [], ◌∷◌, ◌++◌, length, IsErr, Some, None, Ok, Err, Option, Result, sym, refl, ap, ◌∙◌, subst, ap₂, arith, length-append}
+use Rattle.std.proofs.lemmas.Bool.{true≢false, le-leb, lt-leb}
 use Rattle.recordings.specs.declared.faults.FileFault.{FileFault}
-use Rattle.recordings.specs.declared.listing.Listing.{Listing}
 use Rattle.ballots.specs.Faults.{Breach}
 use Rattle.heads.specs.declared.head.Head.{Head}
 use Rattle.heads.specs.Rules.{Scheme}
@@ -13,8 +11,9 @@ use Rattle.votes.specs.declared.stages.Vote.{Vote}
 use Rattle.votes.specs.Rounds.{Report, senders, after}
 use Rattle.votes.specs.Calls.{Answer, Begun, Opened, opened_as, unless, changed, open_breach, opened, hear_breach, heard, heard_table, figures_of}
 use Rattle.votes.specs.Calls.Answer.{done, refused}
-use Rattle.recordings.specs.Files.{Located, Played, Progress, listing_as, ended_by, advanced, played_round, played_from, round_size, round_breach, turns_at, report_at, play_breach, records_after, figures_after, played_one}
+use Rattle.recordings.specs.Files.{Located, Progress, advanced, played_round, played_from, round_size, round_breach, turns_at, report_at, play_breach, records_after, figures_after, played_one}
 use Rattle.recordings.specs.Files.Progress.{going, ended}
+use Rattle.recordings.specs.Into.{RoundsTo}
 
 -- an answer without what was handed back
 abbrev pub forget : {A R : Type 0} → Answer A R → Answer A (Unit {0})
@@ -170,13 +169,9 @@ module _ {V B : Type 0} (earlier : B → B → Bool) (s : Scheme B) (v : Vote V)
       (round_refused earlier s v.n bytes at (v.heard + 1) figures hs b (ap (λ (k : ℕ). k + 1) counted) broken)
       ∙ played_ended earlier s v.n bytes k (at + round_size v.n) figures (record { byte = at; breach = b }))
 
--- ---- what the calls that allocate answer, where they find memory
+-- ---- where a sink stops
 
-pub shown : (r : Result Listing AllocError) (p q : Played) → p ≡ q → IfOk r (λ l. listing_as l ≡ p) → IfOk r (λ l. listing_as l ≡ q)
-shown (Ok l) p q e h = h ∙ e
-shown (Err f) p q e h = tt
-
-pub progressed : {B : Type 0} (r : Result (Option FileFault) AllocError) (p q : Progress B) (figures : List Figures) (hs : List (Head B)) → q ≡ p
-    → IfOk r (λ f. p ≡ ended_by f figures hs) → IfOk r (λ f. q ≡ ended_by f figures hs)
-progressed (Ok f) p q figures hs e h = e ∙ h
-progressed (Err f) p q figures hs e h = tt
+pub rounds_stopped : {S F B : Type 0} (takes stops : S → List Figures → S → Type 0) (p : Progress B) (s t : S) (hs : List (Head B)) (r : Result (Result (Unit {0}) FileFault) F) → IsErr r
+    → (figures : List Figures) → length figures ≤ 10000 → stops s figures t → RoundsTo takes stops p s r t hs
+rounds_stopped takes stops p s t hs (Ok ending) e figures most h = absurd (true≢false (sym e))
+rounds_stopped takes stops p s t hs (Err e) _ figures most h = (figures, (most, h))

@@ -25,8 +25,9 @@ use Rattle.recordings.specs.declared.faults.RecordFault.TheVariants as fault
 use Rattle.recordings.specs.declared.faults.FileFault.{FileFault}
 use Rattle.recordings.specs.declared.listing.Outcome.{Outcome}
 use Rattle.recordings.specs.declared.listing.Outcome.TheVariants as outcome
-use Rattle.recordings.specs.declared.listing.Listing.{Listing}
-use Rattle.recordings.specs.declared.kinds.Header.{Header}
+use Rattle.recordings.specs.declared.listing.Told.{Told}
+use Rattle.std.specs.Global.{Vec}
+use Rattle.recordings.specs.declared.file.File.{File}
 use Rattle.recordings.specs.declared.kinds.VoteKind.{VoteKind}
 use Rattle.recordings.specs.declared.kinds.VoteKind.TheVariants as vote
 use Rattle.recordings.specs.declared.kinds.BallotKind.{BallotKind}
@@ -142,9 +143,9 @@ module _ {B : Type 0} (earlier : B → B → Bool) (s : Scheme B) (n : ℕ) (byt
   played_from (suc k) at p = cond (nat_le (length bytes) at) p (played_from k (at + round_size n) (played_round at p))
 
 -- the progress in which a fault, if there is one, ended the playing
-abbrev pub ended_by : {B : Type 0} → Option FileFault → List Figures → List (Head B) → Progress B
-ended_by None figures hs = going figures hs
-ended_by (Some f) figures hs = ended figures (file_breach f)
+abbrev pub ended_by : {B : Type 0} → Result (Unit {0}) FileFault → List Figures → List (Head B) → Progress B
+ended_by (Ok u) figures hs = going figures hs
+ended_by (Err f) figures hs = ended figures (file_breach f)
 
 -- ---- what playing one record answers
 
@@ -180,7 +181,7 @@ abbrev pub ending_as : {E F : Type 0} → Result E F → (E → List Outcome) �
 ending_as (Ok x) f g = Ok (f x)
 ending_as (Err e) f g = Err (g e)
 
-abbrev pub listing_as : Listing → Played
+abbrev pub listing_as : Told (Vec Figures) (Vec Outcome) → Played
 listing_as l = record { rounds = vec_items l.rounds; ending = ending_as l.ending vec_items file_breach }
 
 abbrev pub told : {B : Type 0} → (B → ℕ) → Progress B → Played
@@ -229,18 +230,16 @@ unfoldable pub played : List ℕ → Played
 played bytes = unless_header (header_breach bytes) (played_kind (kind_of (kind_byte bytes)) (vote_of (vote_byte bytes)) (head_count bytes) bytes)
 
 -- the first five bytes as they were read
-pub record Named (bytes : List ℕ) (h : Header) : Type 0 where
+pub record Named (bytes : List ℕ) (f : File) : Type 0 where
   pub sound : header_breach bytes ≡ None
-  pub vote : h.vote ≡ vote_of (vote_byte bytes)
-  pub kind : h.kind ≡ kind_of (kind_byte bytes)
-  pub heads : h.heads ≡ head_count bytes
-  pub some : 1 ≤ h.heads
-  pub few : h.heads ≤ 64
-  pub five : 5 ≤ length bytes
+  pub source : f.bytes.now ≡ bytes
+  pub vote : f.vote ≡ vote_of (vote_byte bytes)
+  pub kind : f.kind ≡ kind_of (kind_byte bytes)
+  pub heads : f.heads ≡ head_count bytes
 
-abbrev pub HeaderOf : List ℕ → Result Header RecordFault → Type 0
-HeaderOf bytes (Ok h) = Named bytes h
-HeaderOf bytes (Err f) = header_breach bytes ≡ Some (record_breach f)
+abbrev pub FileOf : List ℕ → Result File RecordFault → Type 0
+FileOf bytes (Ok f) = Named bytes f
+FileOf bytes (Err f) = header_breach bytes ≡ Some (record_breach f)
 
 -- what enrolling the n heads answers, and the table after it
 abbrev pub EnrolledOf : {B : Type 0} → (B → ℕ) → (ℕ → B) → List ℕ → ℕ → List (Head B) → Result Roll RecordFault → Type 0

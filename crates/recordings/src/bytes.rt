@@ -8,9 +8,10 @@ pub(crate) fn is_marked(bytes: &[u8], at: usize, first: u8, second: u8) -> bool
     requires { at + 2 ≤ length bytes.now }
     ensures { result ≡ marked first second bytes.now at }
 {
-    bytes[at] == first && bytes[at + 1] == second
+    bytes[at..].starts_with(&[first, second])
 }
 
+// Kept: byte by byte, here and below. first_chunk answers an Option, which holds one each time.
 pub(crate) fn read_u16(bytes: &[u8], at: usize) -> u16
     requires { at + 2 ≤ length bytes.now }
     ensures { result ≡ number 2 bytes.now at }
@@ -35,11 +36,12 @@ pub(crate) fn read_u64(bytes: &[u8], at: usize) -> u64
 }
 
 // Fills the words from the bytes at a place.
+// Kept: by place, and not by chunks of eight, as the definition reads them.
 pub(crate) fn read_words(bytes: &[u8], at: usize, words: &mut [u64])
     requires { (at + 8 * length words.old ≤ length bytes.now) × (length words.old ≤ 64) }
     ensures { words.new ≡ words_at bytes.now at (length words.old) }
 {
-    for i in 0..words.len() {
-        words[i] = read_u64(bytes, at + 8 * i);
+    for (i, word) in words.iter_mut().enumerate() {
+        *word = read_u64(bytes, at + 8 * i);
     }
 }

@@ -1,8 +1,11 @@
 // What playing a vote file may refuse.
 use votes::faults::VoteFault;
 
+// The slices that a call was given are too short.
+pub use sinks::front::NoRoom;
+
 // A fault of one record; the comment has the number of the rule.
-#[derive(Clone, Copy)]
+#[derive(Clone, Copy, Debug, PartialEq, Eq)]
 pub enum RecordFault {
     // the vote layer's fault
     Vote(VoteFault),
@@ -15,12 +18,8 @@ pub enum RecordFault {
 }
 
 // A fault of a vote file, with the byte where its record starts.
-#[derive(Clone, Copy)]
+#[derive(Clone, Copy, Debug, PartialEq, Eq)]
 pub struct FileFault {
     pub byte: usize,
     pub fault: RecordFault,
 }
-
-// The slices that a call was given are too short.
-#[derive(Clone, Copy)]
-pub struct NoRoom;

@@ -2,8 +2,10 @@
 // Recorded votes: a vote file is read and played.
 mod bytes;
 pub mod faults;
+mod file;
 mod header;
-mod kinds;
+mod into;
+pub mod kinds;
 pub mod listing;
 pub mod play;
 mod refusals;

@@ -8,29 +8,15 @@ use votes::faults::Refusal;
 
 impl RecordFault {
     // The number of the rule, and the values that it names.
+    // Kept: like the vote fault's own, which it hands on.
     pub fn refusal(self) -> Refusal
         ensures { refusal_breach result ≡ record_breach self }
     {
         match self {
             RecordFault::Vote(fault) => fault.refusal(),
-            RecordFault::Ends => Refusal {
-                number: 20,
-                round: None,
-                head: None,
-                other: None,
-            },
-            RecordFault::Mark => Refusal {
-                number: 21,
-                round: None,
-                head: None,
-                other: None,
-            },
-            RecordFault::Header => Refusal {
-                number: 22,
-                round: None,
-                head: None,
-                other: None,
-            },
+            RecordFault::Ends => Refusal::rule(20),
+            RecordFault::Mark => Refusal::rule(21),
+            RecordFault::Header => Refusal::rule(22),
         }
     }
 }

@@ -1,16 +1,17 @@
 // The rounds of a vote file.
-ghost use Rattle.std.specs.Prelude.{◌≡◌, ◌+◌, ◌*◌, ◌≤◌, [], length, IfOk, Ok, Err, OnOk};
+ghost use Rattle.std.specs.Prelude.{◌≡◌, ◌+◌, ◌*◌, ◌≤◌, [], length, Ok, Err, OnOk};
 ghost use Rattle.recordings.specs.Files.Progress.{going};
 ghost use Rattle.votes.specs.Calls.{changed};
 ghost use Rattle.recordings.specs.declared.faults.RecordFault.TheVariants.{Vote as VoteLayer};
-ghost use Rattle.recordings.specs.Files.{round_size, checked, round_breach, play_breach, records_after, play_answer, played_one, played_from, ended_by};
+ghost use Rattle.recordings.specs.Files.{round_size, checked, round_breach, play_breach, records_after, play_answer, played_one, played_from};
+ghost use Rattle.recordings.specs.Into.{RoundsTo};
 
 use crate::bytes::{is_marked, read_u64, read_words};
 use crate::faults::{FileFault, RecordFault};
 use ballots::Ballot;
 use heads::head::Head;
 use heads::method::Method;
-use std::alloc::AllocError;
+use sinks::sink::Sink;
 use votes::faults::{Refused, VoteFault};
 use votes::stages::{Figures, HeardRound, OpenRound, Roll, Vote};
 
@@ -22,6 +23,7 @@ impl From<VoteFault> for RecordFault {
     }
 }
 
+// Kept: two impls. One for each T that can be dropped conflicts with that of an open round, which is withdrawn.
 impl From<Refused<Roll>> for RecordFault {
     ghost from_gives = { λ e r. r ≡ VoteLayer e.fault };
 
@@ -52,6 +54,7 @@ impl<V: Drop + Copy> From<Refused<OpenRound<V>>> for RecordFault {
 }
 
 // Whether a whole round record of n words stands at a place.
+// Kept: bytes and a place, here and below, and no slice of a record. The definitions read at places of the whole file.
 fn check_round(bytes: &[u8], at: usize, n: usize) -> Result<(), RecordFault>
     requires { (n ≤ 64) × (at ≤ length bytes.now) }
     ensures whole { OnOk result (at + round_size n ≤ length bytes.now) }
@@ -60,7 +63,7 @@ fn check_round(bytes: &[u8], at: usize, n: usize) -> Result<(), RecordFault>
     if bytes.len() - at < 26 + 8 * n {
         return Err(RecordFault::Ends);
     }
-    if !is_marked(bytes, at, 0x52, 0x44) {
+    if !is_marked(bytes, at, b'R', b'D') {
         return Err(RecordFault::Mark);
     }
     Ok(())
@@ -90,18 +93,20 @@ pub(crate) fn play_round<B: Ballot, V: Method<B> + Drop>(
     )?)
 }
 
-// Plays the rounds from a place on; the figures of those heard go into rounds. The answer is the fault that ended it.
-pub(crate) fn play_rounds<B: Ballot, V: Method<B> + Drop>(
+// Plays the rounds from a place on; the figures of those heard go into rounds. The answer is the fault that ended it, if one did.
+// Kept: six parameters: a vote, the caller's table, words and sink, and the file and a place in it, as said above.
+pub(crate) fn play_rounds<B: Ballot, V: Method<B> + Drop, S: Sink<Figures>>(
     start: Vote<V>,
     table: &mut [Head<B>],
     words: &mut [u64],
     bytes: &[u8],
     from: usize,
-    rounds: &mut Vec<Figures>,
-) -> Result<Option<FileFault>, AllocError>
-    requires { (length words.old ≡ start.n) × ((start.heard ≡ 0) × ((from ≤ length bytes.now) × (rounds.old.items ≡ []))) }
-    ensures { IfOk result (λ f. played_from B.earlier V.Method.scheme start.n bytes.now (length bytes.now) from (going [] table.old) ≡ ended_by f rounds.new.items table.new) }
+    rounds: &mut S,
+) -> Result<Result<(), FileFault>, S::Full>
+    requires { (length words.old ≡ start.n) × ((start.heard ≡ 0) × (from ≤ length bytes.now)) }
+    ensures { RoundsTo S.takes S.stops (played_from B.earlier V.Method.scheme start.n bytes.now (length bytes.now) from (going [] table.old)) rounds.old result rounds.new table.new }
 {
+    // Kept: a place that goes on, and not chunks. A fault names the place where its record starts, and the last may be short.
     let mut vote = start;
     let mut at = from;
     while at < bytes.len() {
@@ -111,12 +116,12 @@ pub(crate) fn play_rounds<B: Ballot, V: Method<B> + Drop>(
                     vote: next,
                     figures,
                 } = heard;
-                rounds.push(figures)?;
+                rounds.put(figures)?;
                 vote = next;
                 at += 26 + 8 * words.len();
             }
-            Err(fault) => return Ok(Some(FileFault { byte: at, fault })),
+            Err(fault) => return Ok(Err(FileFault { byte: at, fault })),
         }
     }
-    Ok(None)
+    Ok(Ok(()))
 }

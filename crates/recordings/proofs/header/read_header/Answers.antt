@@ -1,6 +1,8 @@
-use Rattle.std.proofs.Common.{sym, refl}
+use Rattle.std.proofs.Common.{true, false, Some, sym, refl, ap, ◌∙◌, subst}
 use Rattle.std.proofs.lemmas.Bool.{lt-ltb, le-ltb}
-use Rattle.recordings.specs.Files.{header_breach}
+use Rattle.std.proofs.lemmas.Result.{err_from_is_err_and}
+use Rattle.recordings.specs.Files.{record_breach, vote_byte, kind_byte, head_count, header_breach, FileOf}
+use Rattle.recordings.proofs.Headers.{vote_ok, vote_err, kind_ok, kind_err, ranged, range_of}
 use Rattle.recordings.proofs.header.read_header.Goals as goal
 
 pub returns-then-bytes-lt5 : goal.returns-then-bytes-lt5
@@ -14,26 +16,39 @@ returns-then-not-is_marked c =
     let other = sym c.if-not-is_marked.ensures in
     rw (five, other)
 
-pub returns-then-not-in_range : goal.returns-then-not-in_range
-unfolding header_breach
-returns-then-not-in_range c =
-    let five = le-ltb _ _ c.if-bytes-lt5.false in
-    let mark = sym c.if-not-is_marked.ensures in
-    let other = sym c.if-not-in_range.ensures.value in
-    rw (five, mark, other)
+pub returns-in_err-vote : goal.returns-in_err-vote
+returns-in_err-vote c =
+    let bytes = c.args.bytes.now in
+    let p = err_from_is_err_and c.from_residual.result c.from_residual.ensures.1 in
+    let e = vote_err (vote_byte bytes) c.in_err-vote.field-0.0 c.in_err-vote.ensures in
+    let told = ranged bytes false (le-ltb _ _ c.if-bytes-lt5.false) (sym c.if-not-is_marked.ensures) (range_of (vote_byte bytes) (kind_byte bytes) (head_count bytes) _ _ _ e.0 refl refl) in
+    subst (FileOf bytes) (sym p.1) (told ∙ ap Some (sym (ap record_breach p.2 ∙ e.1)))
+
+pub returns-in_err-kind : goal.returns-in_err-kind
+returns-in_err-kind c =
+    let bytes = c.args.bytes.now in
+    let p = err_from_is_err_and c.from_residual-in_err-kind.result c.from_residual-in_err-kind.ensures.1 in
+    let v = vote_ok (vote_byte bytes) c.in_ok-vote.vote c.in_ok-vote.ensures in
+    let e = kind_err (kind_byte bytes) c.in_err-kind.field-0.0 c.in_err-kind.ensures in
+    let told = ranged bytes false (le-ltb _ _ c.if-bytes-lt5.false) (sym c.if-not-is_marked.ensures) (range_of (vote_byte bytes) (kind_byte bytes) (head_count bytes) _ _ _ v.0 e.0 refl) in
+    subst (FileOf bytes) (sym p.1) (told ∙ ap Some (sym (ap record_breach p.2 ∙ e.1)))
+
+pub returns-then-not-is_head_count : goal.returns-then-not-is_head_count
+returns-then-not-is_head_count c =
+    let bytes = c.args.bytes.now in
+    let v = vote_ok (vote_byte bytes) c.in_ok-vote.vote c.in_ok-vote.ensures in
+    let k = kind_ok (kind_byte bytes) c.in_ok-kind.kind c.in_ok-kind.ensures in
+    ranged bytes false (le-ltb _ _ c.if-bytes-lt5.false) (sym c.if-not-is_marked.ensures) (range_of (vote_byte bytes) (kind_byte bytes) (head_count bytes) _ _ _ v.0 k.0 (sym c.if-not-is_head_count.ensures.value))
 
 pub returns : goal.returns
-unfolding header_breach
 returns c =
-    let five = le-ltb _ _ c.if-bytes-lt5.false in
-    let mark = sym c.if-not-is_marked.ensures in
-    let fine = sym c.if-not-in_range.ensures.value in
+    let bytes = c.args.bytes.now in
+    let v = vote_ok (vote_byte bytes) c.in_ok-vote.vote c.in_ok-vote.ensures in
+    let k = kind_ok (kind_byte bytes) c.in_ok-kind.kind c.in_ok-kind.ensures in
     record {
-      sound = rw (five, mark, fine);
-      vote = c.vote_of.ensures;
-      kind = c.kind_of.ensures;
+      sound = ranged bytes true (le-ltb _ _ c.if-bytes-lt5.false) (sym c.if-not-is_marked.ensures) (range_of (vote_byte bytes) (kind_byte bytes) (head_count bytes) _ _ _ v.0 k.0 (sym c.if-not-is_head_count.ensures.value));
+      source = refl;
+      vote = v.1;
+      kind = k.1;
       heads = refl;
-      some = (c.if-not-in_range.ensures.few refl).0;
-      few = (c.if-not-in_range.ensures.few refl).1;
-      five = c.if-bytes-lt5.false;
     }

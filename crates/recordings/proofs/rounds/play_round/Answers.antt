@@ -1,5 +1,5 @@
-use Rattle.std.proofs.Common.{◌≡◌, ℕ, ◌+◌, ◌≤◌, List, length, is_err, IfOk, None, Err, Result, sym, ap, ◌∙◌, subst}
-use Rattle.std.proofs.lemmas.Result.{err_from_is_err_and, IfOk-from_err}
+use Rattle.std.proofs.Common.{◌≡◌, ℕ, ◌+◌, List, length, None, Err, Result, sym, ap, ◌∙◌, rules}
+use Rattle.std.proofs.lemmas.Result.{err_from_is_err_and}
 use Rattle.votes.specs.declared.stages.HeardRound.{HeardRound}
 use Rattle.recordings.specs.declared.faults.RecordFault.{RecordFault}
 use Rattle.recordings.specs.declared.faults.RecordFault.TheVariants as fault
@@ -8,7 +8,7 @@ use Rattle.votes.specs.Faults.{vote_breach}
 use Rattle.votes.specs.Calls.{begun_as, opened_as, open_breach, opened, heard, heard_table}
 use Rattle.votes.specs.Calls.Answer.{done, refused}
 use Rattle.recordings.specs.Bytes.{number, words_at}
-use Rattle.recordings.specs.Files.{record_breach, round_size, round_breach, turns_at, report_at, play_answer}
+use Rattle.recordings.specs.Files.{record_breach, round_breach, turns_at, report_at, play_answer}
 use Rattle.recordings.proofs.Plays.{forget, unless_refused, by_record, by_opening, refused_one, refused_table, heard_one, table_heard}
 use Rattle.recordings.proofs.rounds.play_round.Goals as goal
 
@@ -24,9 +24,6 @@ report_read bytes at n m words alarms stops e p q r = λ i. record { words = (p 
 erred : {V : Type 0} (r : Result (HeardRound V) RecordFault) (y f : RecordFault) → r ≡ Err y → y ≡ f → play_answer r ≡ refused (record_breach f) tt
 erred r y f e p = ap play_answer e ∙ ap (λ x. refused (record_breach x) tt) p
 
-erred_whole : {V : Type 0} (P : HeardRound V → Type 0) (r : Result (HeardRound V) RecordFault) (y : RecordFault) → r ≡ Err y → IfOk r P
-erred_whole P r y e = IfOk-from_err r P (ap is_err e)
-
 pub returns-in_err-check_round : goal.returns-in_err-check_round
 returns-in_err-check_round g c =
     let earlier = g.B.Ballot.earlier in
@@ -40,7 +37,7 @@ returns-in_err-check_round g c =
     let broken = by_record earlier s v bytes at hs (record_breach fault)
     (ap (round_breach bytes at) (sym c.requires.0) ∙ sym c.in_err-check_round.ensures.value) in
     record {
-      whole = erred_whole _ _ p.0 p.1;
+      whole = search rules;
       answer = erred c.from_residual.result p.0 fault p.1 p.2 ∙ refused_one earlier s v bytes at hs (record_breach fault) broken;
       table = refused_table earlier s v bytes at hs (record_breach fault) broken;
     }
@@ -60,7 +57,7 @@ returns-in_err-open g c =
     let broken = by_opening earlier s v bytes at hs (vote_breach e.fault) whole
     (unless_refused (open_breach v.n (v.heard + 1) hs (turns_at bytes at)) (vote_breach e.fault) _ v e.back answer) in
     record {
-      whole = erred_whole _ _ p.0 p.1;
+      whole = search rules;
       answer = erred c.from_residual-in_err-open.result p.0 (fault.Vote e.fault) p.1 p.2 ∙ refused_one earlier s v bytes at hs (vote_breach e.fault) broken;
       table = refused_table earlier s v bytes at hs (vote_breach e.fault) broken;
     }
@@ -83,7 +80,7 @@ returns-in_err-hear g c =
     let told : refused (vote_breach e.fault) e.back ≡ heard earlier s o hs (report_at bytes at v.n) =
     c.in_err-hear.ensures.answer ∙ ap (heard earlier s o hs) q in
     record {
-      whole = erred_whole _ _ p.0 p.1;
+      whole = search rules;
       answer = erred c.from_residual-in_err-hear.result p.0 (fault.Vote e.fault) p.1 p.2 ∙ ap forget told ∙ heard_one earlier s v bytes at hs o whole opening;
       table = c.in_err-hear.ensures.table ∙ ap (heard_table earlier s o hs) q ∙ table_heard earlier s v bytes at hs o whole opening;
     }
@@ -105,7 +102,7 @@ returns g c =
     let told : done (begun_as h.vote, h.figures) ≡ heard earlier s o hs (report_at bytes at v.n) =
     c.in_ok-hear.ensures.answer ∙ ap (heard earlier s o hs) q in
     record {
-      whole = subst (λ (k : ℕ). at + round_size k ≤ length bytes) c.requires.0 c.in_ok-check_round.ensures.whole;
+      whole = search rules;
       answer = ap forget told ∙ heard_one earlier s v bytes at hs o whole opening;
       table = c.in_ok-hear.ensures.table ∙ ap (heard_table earlier s o hs) q ∙ table_heard earlier s v bytes at hs o whole opening;
     }

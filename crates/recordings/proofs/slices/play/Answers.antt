@@ -1,56 +1,34 @@
-use Rattle.std.proofs.Common.{◌≡◌, ℕ, ◌≤◌, true, cond, List, length, IfOk, Some, Ok, Err, Result, sym, ap, ◌∙◌, subst}
-use Rattle.std.proofs.lemmas.Bool.{le-leb, and_from}
-use Rattle.sets.specs.Search.{when}
+use Rattle.std.proofs.Common.{◌≡◌, ℕ, ◌≤◌, List, length, take, Ok, Err, Result, sym, ap, ◌∙◌, arith, rules}
+use Rattle.sinks.specs.Overs.{over, take_over}
 use Rattle.votes.specs.declared.stages.Figures.{Figures}
-use Rattle.recordings.specs.declared.faults.NoRoom.{NoRoom}
-use Rattle.recordings.specs.declared.faults.RecordFault.{RecordFault}
-use Rattle.recordings.specs.declared.kinds.Header.{Header}
+use Rattle.recordings.specs.declared.faults.FileFault.{FileFault}
 use Rattle.recordings.specs.declared.listing.Outcome.{Outcome}
-use Rattle.recordings.specs.declared.listing.Summary.{Summary}
-use Rattle.recordings.specs.Rooms.{over}
-use Rattle.recordings.specs.Files.{Played, Named, record_breach, header_breach, kind_of, kind_byte, vote_of, vote_byte, head_count, unless_header, played_kind, played}
-use Rattle.recordings.specs.Slices.{Told, counted, heads_of, told_by, roomy, play_told}
+use Rattle.recordings.specs.Files.{Played, ending_as, file_breach, played}
+use Rattle.recordings.specs.Slices.{heads_of, ending_by, told_by}
 use Rattle.recordings.proofs.slices.play.Goals as goal
 
--- a sound header names what is played
-named : (bytes : List ℕ) (h : Header) → Named bytes h → played bytes ≡ played_kind h.kind h.vote h.heads bytes
-unfolding played
-named bytes h is =
-    ap (λ b. unless_header b (played_kind (kind_of (kind_byte bytes)) (vote_of (vote_byte bytes)) (head_count bytes) bytes)) is.sound
-    ∙ sym (λ i. played_kind (is.kind i) (is.vote i) (is.heads i) bytes)
+-- n of them where the file plays to its end
+abbrev ended : Result (Unit {0}) FileFault → ℕ → Result ℕ FileFault
+ended (Ok u) n = Ok n
+ended (Err f) n = Err f
 
--- a fault of the header tells nothing else
-refused : (bytes : List ℕ) (f : RecordFault) (fs : List Figures) (os : List Outcome) → header_breach bytes ≡ Some (record_breach f)
-    → Told (played bytes) (record { rounds = 0; ending = Err (record { byte = 0; fault = f }) }) fs fs os os
-unfolding played
-refused bytes f fs os e = record { told = rw e; answer = rw e; rounds = rw e; heads = rw e }
+-- the first n that were written
+front : {X : Type 0} (n : ℕ) (xs ys zs : List X) → n ≡ length xs → length xs ≤ length ys → zs ≡ over xs ys → take n zs ≡ xs
+front n xs ys zs e h w = (λ i. take (e i) (w i)) ∙ take_over xs ys h
 
--- what is told, where there is room
-record Answered (r : Result Summary NoRoom) (p : Played) (fs gs : List Figures) (os ps : List Outcome) : Type 0 where
-  pub told : IfOk r (λ s. told_by s gs ps ≡ p)
-  pub answer : play_told r ≡ when (roomy fs os) (counted p)
-  pub rounds : gs ≡ cond (roomy fs os) (over p.rounds fs) fs
-  pub heads : ps ≡ cond (roomy fs os) (over (heads_of p) os) os
+told : (p : Played) (ending : Result (Unit {0}) FileFault) (m : Result ℕ FileFault) (n k : ℕ) (fs gs : List Figures) (os ps : List Outcome)
+    → n ≡ length p.rounds → length p.rounds ≤ length fs → gs ≡ over p.rounds fs → k ≡ length (heads_of p) → length (heads_of p) ≤ length os → ps ≡ over (heads_of p) os
+    → p.ending ≡ ending_as ending (λ u. heads_of p) file_breach → m ≡ ended ending k
+    → told_by (record { rounds = n; ending = m }) gs ps ≡ p
+told p ending m n k fs gs os ps en room w ek place v is em = λ i. record { rounds = front n p.rounds fs gs en room w i; ending = end ending is em i }
+  where
+    end : (ending : Result (Unit {0}) FileFault) → p.ending ≡ ending_as ending (λ u. heads_of p) file_breach → m ≡ ended ending k → ending_by m ps ≡ p.ending
+    end (Ok u) is em = ap (λ x. ending_by x ps) em ∙ ap Ok (front k (heads_of p) os ps ek place v) ∙ sym is
+    end (Err f) is em = ap (λ x. ending_by x ps) em ∙ sym is
 
-with_room : (p : Played) (s : Summary) (fs gs : List Figures) (os ps : List Outcome) → 10000 ≤ length fs → 64 ≤ length os → Told p s fs gs os ps → Answered (Ok s) p fs gs os ps
-with_room p s fs gs os ps room place is =
-    let enough : roomy fs os ≡ true = and_from _ _ (le-leb 10000 (length fs) room) (le-leb 64 (length os) place) in
-    record { told = is.told; answer = rw enough (ap Some is.answer); rounds = rw enough is.rounds; heads = rw enough is.heads }
-
-pub returns-in-Ok : goal.returns-in-Ok
-returns-in-Ok c =
-    let fs = c.args.rounds.now in
-    let os = c.args.heads.now in
-    let s = c.play_header.result in
-    let same = named c.args.bytes.now c.in-Ok.header c.in-Ok.ensures in
-    let is = subst (λ p. Told p s fs c.play_header.new.rounds os c.play_header.new.heads) (sym same) c.play_header.ensures in
-    let told = with_room (played c.args.bytes.now) s fs c.play_header.new.rounds os c.play_header.new.heads c.if-rounds-lt-ROUNDS.false c.if-heads-lt-HEADS.false is in
-    record { told = told.told; answer = told.answer; rounds = told.rounds; heads = told.heads }
-
-pub returns-in-Err : goal.returns-in-Err
-returns-in-Err c =
-    let fs = c.args.rounds.now in
-    let os = c.args.heads.now in
-    let is = refused c.args.bytes.now c.in-Err.fault fs os c.in-Err.ensures in
-    let told = with_room (played c.args.bytes.now) _ fs fs os os c.if-rounds-lt-ROUNDS.false c.if-heads-lt-HEADS.false is in
-    record { told = told.told; answer = told.answer; rounds = told.rounds; heads = told.heads }
+pub returns-clause-told : goal.returns-clause-told
+returns-clause-told c =
+    let p = played c.args.bytes.now in
+    let is = c.in_ok-ending.ensures in
+    told p c.in_ok-ending.ending c.map.result c.play_into.new.rounds.filled c.play_into.new.heads.filled c.args.rounds.now _ c.args.heads.now _
+    (omega (arith, is.0.filled)) (omega (arith, is.0.room)) (search rules) (omega (arith, is.1.filled)) (omega (arith, is.1.room)) (search rules) is.2 (search rules)

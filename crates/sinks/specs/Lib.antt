@@ -1,0 +1,4 @@
+pub mod Fronts
+pub mod Overs
+pub mod Sinks
+pub mod Vecs

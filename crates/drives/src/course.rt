@@ -1,7 +1,7 @@
 // The course of one vote of the table.
-use crate::equipment::{Pile, bare_channel, bare_detector, pile_of};
+use crate::equipment::{bare_channel, bare_detector, spells_of};
 use crate::everyone::Everyone;
-use crate::plan::{BallotKind, ManagerKind, Plan, Setting, VoteKind};
+use crate::plan::{Layers, ManagerKind, Plan, Setting};
 use ballots::Coded;
 use ballots::kinds::{Recipe, Ticket};
 use channels::dead::DeadSpells;
@@ -9,7 +9,7 @@ use detectors::interference::Interference;
 use driving::{begin, drive};
 use heads::bitwise::Bitwise;
 use heads::fitted::Fitted;
-use heads::head::{Ballots, Head, Prefix, State};
+use heads::head::Head;
 use heads::method::Method;
 use heads::short::Short;
 use heads::split::Split;
@@ -19,31 +19,20 @@ use parts::channel::Channel;
 use parts::detector::Detector;
 use parts::faults::PartFault;
 use parts::manager::Manager;
+use parts::spells::Spells;
+use recordings::kinds::{BallotKind, VoteKind};
+use recordings::listing::Outcome;
 use std::alloc::{AllocError, AllocFailed, Global};
 use votes::faults::{Refusal, Refused, VoteFault};
 use votes::refusals::ballot_of;
 use votes::stages::{Figures, HeardRound, Roll, Standing, Vote};
 
-// How a head stands at the end, with the code of the ballot that it decided.
-#[derive(Clone, Copy)]
-pub enum Outcome {
-    Running,
-    Stopped,
-    Decided(u16),
-}
-
-#[derive(Clone, Copy)]
-pub enum Ending {
-    Driven,
-    Refused(Refusal),
-}
-
 // The rounds heard, and then how each head stands, or the refusal that ended the vote.
+// Kept: no `Told`, whose ending is a fault of a file, with a byte.
 #[derive(Drop)]
 pub struct Course {
     pub rounds: Vec<Figures>,
-    pub heads: Vec<Outcome>,
-    pub ending: Ending,
+    pub ending: Result<Vec<Outcome>, Refusal>,
 }
 
 // What ends a vote early: a refusal, or want of memory.
@@ -67,59 +56,41 @@ impl From<VoteFault> for Halt {
 
 impl From<PartFault> for Halt {
     fn from(_e: PartFault) -> Halt {
-        Halt::Refused(Refusal {
-            number: 17,
-            round: None,
-            head: None,
-            other: None,
-        })
+        Halt::Refused(Refusal::rule(17))
     }
 }
 
 impl<T: Drop> From<Refused<T>> for Halt {
     fn from(e: Refused<T>) -> Halt {
+        // Kept: taken apart here, since what is handed back is let go by its own type.
         let Refused { back: _, fault } = e;
         Halt::Refused(fault.refusal())
     }
 }
 
-// A record that names no head yet.
-fn vacant<B: Coded>() -> Head<B> {
-    let ballot = B::from_code(0);
-    Head {
-        state: State::Stopped,
-        first: ballot,
-        estimate: ballot,
-        ballots: Ballots {
-            least: None,
-            differ: false,
-        },
-        flag: false,
-        prefix: Prefix { bits: 0, length: 0 },
-        noise: false,
-    }
-}
-
-// A roll of a head for each code.
-fn enroll_all<B: Coded>(codes: &[u64], table: &mut [Head<B>]) -> Result<Roll, Halt> {
-    let mut roll = Roll::new();
-    for i in 0..codes.len() {
-        let ballot = ballot_of::<B>(codes[i].min(65535) as u16)?;
-        roll = roll.enroll(table, ballot)?;
-    }
-    Ok(roll)
-}
-
+// How a head stands, with the code of the ballot that it decided.
+// Kept: no `From`, since both types are other crates'.
 fn outcome_of<B: Coded>(standing: Standing<B>) -> Outcome {
     match standing {
         Standing::Running => Outcome::Running,
         Standing::Decided(ballot) => Outcome::Decided(ballot.code()),
-        Standing::Stopped => Outcome::Stopped,
-        Standing::NoSuchHead => Outcome::Stopped,
+        Standing::Stopped | Standing::NoSuchHead => Outcome::Stopped,
     }
 }
 
+// A roll of a head for each code.
+// Kept: no text shared with a file's heads, whose codes are read from bytes and refused by the file's own faults.
+fn enroll_all<B: Coded>(codes: &[u64], table: &mut [Head<B>]) -> Result<Roll, Halt> {
+    let mut roll = Roll::new();
+    for code in codes {
+        let code = u16::try_from(*code).unwrap_or(u16::MAX);
+        roll = roll.enroll(table, ballot_of::<B>(code)?)?;
+    }
+    Ok(roll)
+}
+
 // Drives one round, with as many records and words as its setting says.
+// Kept: here and below, a channel, a detector and a manager by themselves, as driving takes them.
 fn drive_once<B: Coded, V: Method<B> + Drop, C: Channel, D: Detector, M: Manager>(
     vote: Vote<V>,
     table: &mut [Head<B>],
@@ -133,22 +104,36 @@ fn drive_once<B: Coded, V: Method<B> + Drop, C: Channel, D: Detector, M: Manager
     let words = setting.words.min(65) as usize;
     drive(
         vote,
-        &mut table[0..records],
+        &mut table[..records],
         setting.stops,
-        &mut list[0..words],
+        &mut list[..words],
         channel,
         detector,
         manager,
     )
 }
 
-impl Course {
+// A plan that is followed, and the rounds that were heard so far.
+#[derive(Drop)]
+struct Followed<'a> {
+    heap: Global,
+    plan: &'a Plan<'a>,
+    rounds: Vec<Figures>,
+}
+
+impl<'a> Followed<'a> {
     // Asks how each head stands.
-    fn ask<B: Coded, V: Drop>(&mut self, vote: &Vote<V>, table: &[Head<B>]) -> Result<(), Halt> {
+    fn ask<B: Coded, V: Drop>(
+        &self,
+        vote: &Vote<V>,
+        table: &[Head<B>],
+    ) -> Result<Vec<Outcome>, Halt> {
+        let mut heads = Vec::new(self.heap);
+        // Kept: heads are asked by their numbers, and there is no list of them.
         for head in 0..vote.heads() {
-            self.heads.push(outcome_of(vote.state(table, head)?))?;
+            heads.push(outcome_of(vote.state(table, head)?))?;
         }
-        Ok(())
+        Ok(heads)
     }
 
     // Drives the vote as often as the plan says.
@@ -156,18 +141,20 @@ impl Course {
         &mut self,
         start: Vote<V>,
         table: &mut [Head<B>],
-        plan: &Plan<'_>,
         channel: &C,
         detector: &D,
-        manager: &mut M,
-    ) -> Result<(), Halt> {
+        mut manager: M,
+    ) -> Result<Vec<Outcome>, Halt>
+    where
+        M: Drop,
+    {
         let mut vote = start;
-        for k in 0..plan.drivings {
-            let setting = plan.setting(k + 1);
+        for round in 1..=self.plan.drivings {
+            let setting = self.plan.setting(round);
             let HeardRound {
                 vote: next,
                 figures,
-            } = drive_once(vote, table, setting, channel, detector, manager)?;
+            } = drive_once(vote, table, setting, channel, detector, &mut manager)?;
             vote = next;
             self.rounds.push(figures)?;
         }
@@ -175,56 +162,49 @@ impl Course {
     }
 
     // Drives the vote by the plan's contention manager.
+    // Kept: a match, here and below, since each arm drives by another type; a `dyn` would carry no law.
     fn by_manager<B: Coded, V: Method<B> + Drop, C: Channel, D: Detector>(
         &mut self,
         vote: Vote<V>,
         table: &mut [Head<B>],
-        plan: &Plan<'_>,
         channel: &C,
         detector: &D,
-    ) -> Result<(), Halt> {
-        match plan.manager {
-            ManagerKind::Lowest => {
-                let mut manager = Lowest::new();
-                self.drive_on(vote, table, plan, channel, detector, &mut manager)
-            }
-            ManagerKind::Rotation => {
-                let mut manager = Rotation::new();
-                self.drive_on(vote, table, plan, channel, detector, &mut manager)
-            }
-            ManagerKind::Everyone => {
-                let mut manager = Everyone::new();
-                self.drive_on(vote, table, plan, channel, detector, &mut manager)
-            }
+    ) -> Result<Vec<Outcome>, Halt> {
+        match self.plan.manager {
+            ManagerKind::Lowest => self.drive_on(vote, table, channel, detector, Lowest::new()),
+            ManagerKind::Rotation => self.drive_on(vote, table, channel, detector, Rotation::new()),
+            ManagerKind::Everyone => self.drive_on(vote, table, channel, detector, Everyone::new()),
         }
     }
 
-    // Drives the vote by a channel and a detector, under as many layers as the deeper pile has: the other part then has
-    // layers without spells.
+    // Drives the vote by a channel and a detector, under as many layers as the one under more of them has: the other part
+    // then has layers without spells.
     fn by_parts<B: Coded, V: Method<B> + Drop>(
         &mut self,
         vote: Vote<V>,
         table: &mut [Head<B>],
-        plan: &Plan<'_>,
-        dead: Pile,
-        noisy: Pile,
-    ) -> Result<(), Halt> {
-        let channel = bare_channel(plan.channel)?;
-        let detector = bare_detector(plan.detector)?;
-        match dead.depth.max(noisy.depth) {
-            0 => self.by_manager(vote, table, plan, &channel, &detector),
-            1 => {
-                let channel = DeadSpells::new(dead.upper, channel);
-                let detector = Interference::new(noisy.upper, detector);
-                self.by_manager(vote, table, plan, &channel, &detector)
+        dead: Layers<Spells>,
+        noisy: Layers<Spells>,
+    ) -> Result<Vec<Outcome>, Halt> {
+        let channel = bare_channel(self.plan.channel)?;
+        let detector = bare_detector(self.plan.detector)?;
+        let none = Spells::new();
+        let (dead_above, dead_below) = dead.filled_up(none);
+        let (noisy_above, noisy_below) = noisy.filled_up(none);
+        match (dead, noisy) {
+            (Layers::None, Layers::None) => self.by_manager(vote, table, &channel, &detector),
+            (Layers::Two(..), _) | (_, Layers::Two(..)) => {
+                let channel = DeadSpells::new(dead_above, DeadSpells::new(dead_below, channel));
+                let detector = Interference::new(
+                    noisy_above,
+                    Interference::new(noisy_below, detector),
+                );
+                self.by_manager(vote, table, &channel, &detector)
             }
             _ => {
-                let channel = DeadSpells::new(dead.upper, DeadSpells::new(dead.lower, channel));
-                let detector = Interference::new(
-                    noisy.upper,
-                    Interference::new(noisy.lower, detector),
-                );
-                self.by_manager(vote, table, plan, &channel, &detector)
+                let channel = DeadSpells::new(dead_above, channel);
+                let detector = Interference::new(noisy_above, detector);
+                self.by_manager(vote, table, &channel, &detector)
             }
         }
     }
@@ -234,52 +214,46 @@ impl Course {
         &mut self,
         method: V,
         table: &mut [Head<B>],
-        plan: &Plan<'_>,
-    ) -> Result<(), Halt> {
-        let roll = enroll_all(plan.codes, table)?;
+    ) -> Result<Vec<Outcome>, Halt> {
+        let roll = enroll_all(self.plan.codes, table)?;
         let vote = begin::<B, V>(roll, method)?;
-        let dead = pile_of(plan.dead)?;
-        let noisy = pile_of(plan.disturbed)?;
-        self.by_parts(vote, table, plan, dead, noisy)
+        let dead = self.plan.dead.try_map(spells_of)?;
+        let noisy = self.plan.disturbed.try_map(spells_of)?;
+        self.by_parts(vote, table, dead, noisy)
     }
 
     // The vote over one kind of ballot.
-    fn by_kind<B: Coded>(&mut self, table: &mut [Head<B>], plan: &Plan<'_>) -> Result<(), Halt> {
-        match plan.vote {
-            VoteKind::Short => self.by_method::<B, Short>(Short, table, plan),
-            VoteKind::Bit => self.by_method::<B, Bitwise>(Bitwise, table, plan),
-            VoteKind::Split => self.by_method::<B, Split>(Split, table, plan),
+    fn by_kind<B: Coded>(&mut self, table: &mut [Head<B>]) -> Result<Vec<Outcome>, Halt> {
+        match self.plan.vote {
+            VoteKind::Short => self.by_method::<B, Short>(Short, table),
+            VoteKind::Bit => self.by_method::<B, Bitwise>(Bitwise, table),
+            VoteKind::Split => self.by_method::<B, Split>(Split, table),
         }
     }
 
-    // The whole vote of the plan, on a table of 64 records.
-    fn take(&mut self, plan: &Plan<'_>) -> Result<(), Halt> {
-        match plan.kind {
-            BallotKind::Recipe => {
-                let mut table = [vacant::<Recipe>(); 64];
-                self.by_kind(&mut table, plan)
-            }
-            BallotKind::Ticket => {
-                let mut table = [vacant::<Ticket>(); 64];
-                self.by_kind(&mut table, plan)
-            }
+    // The whole vote, on a table of 64 records, each of which is written over before it is read.
+    fn vote(&mut self) -> Result<Vec<Outcome>, Halt> {
+        match self.plan.kind {
+            BallotKind::Recipe => self.by_kind(&mut [Head::new(Recipe::from_code(0)); 64]),
+            BallotKind::Ticket => self.by_kind(&mut [Head::new(Ticket::from_code(0)); 64]),
         }
     }
 }
 
 // Enrolls the heads, begins the vote, makes the parts and drives, up to the first refusal.
 pub(crate) fn follow(heap: Global, plan: &Plan<'_>) -> Result<Course, AllocError> {
-    let mut course = Course {
+    let mut followed = Followed {
+        heap,
+        plan,
         rounds: Vec::new(heap),
-        heads: Vec::new(heap),
-        ending: Ending::Driven,
     };
-    match course.take(plan) {
-        Ok(()) => Ok(course),
-        Err(Halt::Memory(e)) => Err(e),
-        Err(Halt::Refused(refusal)) => {
-            course.ending = Ending::Refused(refusal);
-            Ok(course)
-        }
-    }
+    let ending = match followed.vote() {
+        Ok(heads) => Ok(heads),
+        Err(Halt::Refused(refusal)) => Err(refusal),
+        Err(Halt::Memory(e)) => return Err(e),
+    };
+    Ok(Course {
+        rounds: followed.rounds,
+        ending,
+    })
 }

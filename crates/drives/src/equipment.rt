@@ -1,6 +1,6 @@
 // Channels and collision detectors, made as the table says.
 use crate::one_of::OneOf;
-use crate::plan::{ChannelKind, DetectorKind, Layers};
+use crate::plan::{ChannelKind, DetectorKind, Pair};
 use channels::capture::CaptureChannel;
 use channels::clear::ClearChannel;
 use channels::recorded::RecordedChannel;
@@ -19,63 +19,25 @@ pub type BareDetector<'a> = OneOf<
     RecordedDetector<WordSlice<'a>>,
 >;
 
-// A number of the table as a round; one that is too large is no round anyhow.
-fn round_of(number: u64) -> u32 {
-    number.min(4294967295) as u32
-}
-
-// The spells of a layer, a first and a last round each.
-fn spells_of(pairs: &[u64]) -> Result<Spells, PartFault> {
+// The spells of a layer. A number that is too large for a round becomes one that is no round either.
+pub(crate) fn spells_of(pairs: &[Pair]) -> Result<Spells, PartFault> {
     let mut spells = Spells::new();
-    for i in 0..pairs.len() / 2 {
+    for [first, last] in pairs {
         spells.add(Spell {
-            first: round_of(pairs[2 * i]),
-            last: round_of(pairs[2 * i + 1]),
+            first: u32::try_from(*first).unwrap_or(u32::MAX),
+            last: u32::try_from(*last).unwrap_or(u32::MAX),
         })?;
     }
     Ok(spells)
 }
 
-// The layers over a part: how many, the spells of the upper one and of the one below it.
-#[derive(Clone, Copy)]
-pub struct Pile {
-    pub depth: u32,
-    pub upper: Spells,
-    pub lower: Spells,
-}
-
-pub(crate) fn pile_of(layers: Layers<'_>) -> Result<Pile, PartFault> {
-    let none = Spells::new();
-    match layers {
-        Layers::None => Ok(Pile {
-            depth: 0,
-            upper: none,
-            lower: none,
-        }),
-        Layers::One(only) => Ok(Pile {
-            depth: 1,
-            upper: spells_of(only)?,
-            lower: none,
-        }),
-        Layers::Two(upper, lower) => Ok(Pile {
-            depth: 2,
-            upper: spells_of(upper)?,
-            lower: spells_of(lower)?,
-        }),
-    }
-}
-
-// The capture channel of at most 64 positions.
+// The capture channel of at most 64 positions. A number that is too large becomes one that is no position either.
 fn capture_of(numbers: &[u64]) -> Result<CaptureChannel, PartFault> {
-    let n = numbers.len();
-    if n > 64 {
-        return Err(PartFault::Unfit);
+    let mut positions = [0; 64];
+    for (position, number) in positions.iter_mut().zip(numbers) {
+        *position = u16::try_from(*number).unwrap_or(u16::MAX);
     }
-    let mut positions = [0u16; 64];
-    for i in 0..n {
-        positions[i] = numbers[i].min(65535) as u16;
-    }
-    CaptureChannel::new(&positions[0..n])
+    CaptureChannel::new(positions.get(..numbers.len()).ok_or(PartFault::Unfit)?)
 }
 
 pub(crate) fn bare_channel(kind: ChannelKind<'_>) -> Result<BareChannel<'_>, PartFault> {

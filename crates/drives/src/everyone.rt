@@ -1,35 +1,25 @@
 // A contention manager of the program's own: every running head has a turn, in every round.
-ghost use Rattle.std.specs.Prelude.{◌≡◌, if◌then◌else◌, nat_le, refl};
-ghost use Rattle.std.proofs.Common.{ap, arith};
-ghost use Rattle.parts.specs.Ranges.{tellable, in_time};
-ghost use Rattle.drives.specs.Everyone.{everyone};
+ghost use Rattle.std.specs.Prelude.{nat_le};
+ghost use Rattle.std.proofs.Common.{arith};
 ghost use Rattle.std.proofs.lemmas.Bool.{and_parts, leb-true, cond-false, cond_both};
 ghost use Rattle.sets.specs.Sets.{Within};
 ghost use Rattle.sets.proofs.Words.{none_within};
+ghost use Rattle.parts.specs.Ranges.{in_time};
+ghost use Rattle.drives.specs.Everyone.{all_running};
 
-use parts::manager::Manager;
-use parts::ranges::{in_time, is_tellable};
+use managers::giving::{ByLastTold, Giving};
 
-// The round last told.
 #[derive(Clone, Copy)]
-pub struct Everyone {
-    told: u32,
-}
+pub struct ToEveryone;
 
-impl Everyone {
-    pub(crate) fn new() -> Everyone
-        ensures { result ≡ record { told = 0 } }
-    {
-        Everyone { told: 0 }
-    }
-}
+impl Giving for ToEveryone {
+    const SINGLE: u32 = 10001;
 
-impl Manager for Everyone {
-    ghost meaning = { λ manager. everyone manager.told };
+    ghost SINGLE = { 10001 };
 
-    ghost tells = { λ before round c alarms after. after ≡ record { told = (if tellable round c then round else before.told) } };
+    ghost gives = { all_running };
 
-    ghost keeps = { λ manager.
+    ghost keeps = { λ told.
         record {
           some = omega arith;
           most = omega arith;
@@ -38,23 +28,9 @@ impl Manager for Everyone {
           outside = λ r s b. cond-false (in_time r) s 0 b;
         } };
 
-    ghost told = { λ before round c alarms after e. rw e (record { last = refl; single = refl; outside = λ b. ap everyone (cond-false (tellable round c) round before.told b) }) };
-
-    fn turns(&self, round: u32, running: u64) -> u64 {
-        if in_time(round) { running } else { 0 }
-    }
-
-    fn single_round(&self) -> u32 {
-        10001
-    }
-
-    fn last_told(&self) -> u32 {
-        self.told
-    }
-
-    fn tell(&mut self, round: u32, c: u32, _alarms: u64) {
-        if is_tellable(round, c) {
-            self.told = round;
-        }
+    fn turns(_told: u32, running: u64) -> u64 {
+        running
     }
 }
+
+pub type Everyone = ByLastTold<ToEveryone>;

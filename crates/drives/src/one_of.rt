@@ -6,6 +6,7 @@ use heads::alarms::Class;
 use parts::channel::Channel;
 use parts::detector::Detector;
 
+// Kept: tried &dyn: an impl of Channel for it cannot name the law of the dyn, which driving asks for.
 #[derive(Clone, Copy)]
 pub enum OneOf<X, Y, Z> {
     First(X),

@@ -30,6 +30,7 @@ mod tests {
     use votes::stages::{Figures, HeardRound, Roll, Vote};
 
     // Why a call was refused, without what it hands back.
+    // Kept: taken apart here, since what is handed back is let go by its own type.
     fn fault_of<T: Drop>(refused: Refused<T>) -> VoteFault {
         let Refused { back: _, fault } = refused;
         fault
@@ -88,6 +89,7 @@ mod tests {
     }
 
     // So many rounds, driven without stops.
+    // Kept: the parameters are those of driving.
     fn driven<B: Ballot, V: Method<B> + Drop, C: Channel, D: Detector, M: Manager>(
         rounds: u32,
         begun: Vote<V>,

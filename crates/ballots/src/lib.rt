@@ -13,6 +13,7 @@ pub mod ticket;
 use faults::BallotFault;
 
 // A kind of ballot: which of two ballots comes first.
+// Kept: an order of its own and not `Ord`, which would ask a site's kind for equality and three more laws.
 pub trait Ballot: Copy {
     ghost earlier: { Self → Self → Bool };
 

@@ -14,6 +14,7 @@ use votes::stages::{HeardRound, Vote};
 
 // One round of the vote by the parts' rules: turns from the contention manager, words from the channel, alarms from the
 // collision detector; the manager is told of the round that was heard. The list gets the channel's words.
+// Kept: seven parameters, since each is the caller's own, and three of them are of types of their own.
 pub fn drive<B: Ballot, V: Method<B> + Drop, C: Channel, D: Detector, M: Manager>(
     vote: Vote<V>,
     table: &mut [Head<B>],

@@ -51,6 +51,7 @@ impl Round {
         requires { length words.now ≤ 64 }
         ensures { result ≡ word_of (length words.now) (λ i. alarm_for (D.Detector.meaning detector.now) self.number self.running self.senders (slice_index words.now i) i) }
     {
+        // Kept: the like loop of `votes` is over records and private; a public one over any test would need a `requires`.
         let mut alarms = 0;
         for (i, &word) in words.iter().enumerate() {
             if self.alarm_for(detector, word, i) {

@@ -140,6 +140,10 @@ module _ {B : Type 0} {n : ℕ} {hs : List (Head B)} {st : Heads B} (few : n ≤
 
 -- ---- what happened in a round, by its turns and its report
 
+-- an alarm is due in a vote where it is due by the class of detector that the vote asks for
+pub due_is : {B : Type 0} (s : Scheme B) (c t : ℕ) → due s c t ≡ due_by (class_of s) c t
+due_is s c t = refl
+
 abbrev pub events : {B : Type 0} → (B → B → Bool) → Scheme B → ℕ → List (Head B) → ℕ → Report → Events B
 events earlier s r hs turns q = record {
   turn = on turns;

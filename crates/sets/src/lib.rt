@@ -1,5 +1,6 @@
 #![tactic(auto)]
 // Sets of heads: head i is in a set where bit i of its 64-bit word is 1.
+// Kept: plain words, since they stand as such in the signatures of all public calls and in files.
 ghost use Rattle.std.specs.Prelude.{◌≡◌, ℕ, ◌+◌, ◌-◌, ◌<◌, ◌≤◌, Bool, true, false, not, ◌&&◌, ◌||◌, ◌==◌, nat_eq};
 ghost use Rattle.sets.specs.Sets.{bit, count, word_of, lowest_from};
 ghost use Rattle.sets.specs.Members.{Gives};

@@ -16,18 +16,11 @@ fn idle_noise(r: Reception) -> bool
     !r.runs && (r.word != 0 || r.alarm)
 }
 
-// Whether the word has a head that did not send.
-fn stranger(senders: u64, word: u64, j: usize) -> bool
-    ensures { result ≡ bit word j && not (bit senders j) }
+// Whether a head is in the first set and not in the second.
+fn only_in(set: u64, other: u64, i: usize) -> bool
+    ensures { result ≡ bit set i && not (bit other i) }
 {
-    sets::has(word, j) && !sets::has(senders, j)
-}
-
-// Whether a head sent and does not hear itself.
-fn own_unheard(senders: u64, word: u64, head: usize) -> bool
-    ensures { result ≡ bit senders head && not (bit word head) }
-{
-    sets::has(senders, head) && !sets::has(word, head)
+    sets::has(set, i) && !sets::has(other, i)
 }
 
 // Whether a word has a head that did not send.
@@ -86,7 +79,7 @@ impl<V: Copy> Round<V> {
         ensures { breach_in result ≡ late_breach V.Method.scheme self.senders self.number r.runs r.word r.alarm r.head }
     {
         let (round, head) = (self.number, r.head);
-        if own_unheard(self.senders, r.word, head) {
+        if only_in(self.senders, r.word, head) {
             return Err(VoteFault::OwnUnheard { round, head });
         }
         let t = heard_of(self.senders, r.word);
@@ -117,7 +110,7 @@ impl<V: Copy> Round<V> {
             }
             if has_stranger(senders, r.word) {
                 for other in 0..64 {
-                    if stranger(senders, r.word, other) {
+                    if only_in(r.word, senders, other) {
                         found = Err(VoteFault::NotSender { round, head, other });
                         break 'check;
                     }

@@ -7,7 +7,7 @@ use heads::head::Head;
 #[derive(Drop)]
 pub(crate) struct Enrolled<'a, B> {
     pub(crate) table: &'a [Head<B>],
-    // Kept: not a slice of n, since a hear word may name a record past them.
+    // Kept: the definitions speak of a table and a number of heads, and so each method says no less with both.
     pub(crate) n: usize,
     ghost inside: { n ≤ length table.now },
     ghost few: { n ≤ 64 },

@@ -2,7 +2,7 @@
 use ballots::faults::BallotFault;
 
 // Why a call was refused; the comment has the number of the rule.
-#[derive(Clone, Copy)]
+#[derive(Clone, Copy, Debug, PartialEq, Eq)]
 pub enum VoteFault {
     // 1: the ballot layer's fault
     Ballot(BallotFault),
@@ -77,8 +77,9 @@ pub struct Refused<T> {
 }
 
 // A fault as its number and the values that it names.
-#[derive(Clone, Copy)]
+#[derive(Clone, Copy, Debug, PartialEq, Eq)]
 pub struct Refusal {
+    // Kept: a number, which the listing prints; what a call refuses is the enum above.
     pub number: u32,
     pub round: Option<usize>,
     pub head: Option<usize>,

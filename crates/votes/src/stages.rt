@@ -45,7 +45,7 @@ impl<V: Drop> Drop for OpenRound<V> {
 }
 
 // The figures of a heard round: how many heads sent, were alarmed, have decided and run after it.
-#[derive(Clone, Copy)]
+#[derive(Clone, Copy, Debug, PartialEq, Eq)]
 pub struct Figures {
     pub round: u32,
     pub senders: u32,

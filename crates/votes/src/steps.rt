@@ -23,7 +23,7 @@ fn note<B: Copy>(stop: bool, ballots: Ballots<B>, h: Head<B>) -> Head<B>
     }
 }
 
-// Kept: three passes ask for a record to each word; a struct that held the table would have to give it back for the next.
+// Kept: two passes and their call ask for a record to each word; each would have to say so of a struct's field as well.
 impl<V: Copy> Round<V> {
     // In a round of ballots every head notes what it heard; the estimates stay.
     fn listen<B: Ballot>(self, table: &mut [Head<B>], report: Report<'_>)

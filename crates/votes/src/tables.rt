@@ -39,7 +39,7 @@ fn decided<B: Copy>(h: &Head<B>) -> Option<B>
 }
 
 // How a head stands.
-// Kept: a `From` of a head would be public, and would say no more.
+// Kept: a `From` would be public, where only `Vote::state` is to tell how a head stands.
 fn standing<B: Copy>(h: &Head<B>) -> Standing<B>
     ensures { result ≡ standing_of (Some h.now) }
 {
@@ -61,6 +61,7 @@ fn sends<B: Copy, V: Method<B>>(method: V, round: u32, turn: bool, h: &Head<B>) 
 fn first_decided<B: Copy>(heads: &[Head<B>]) -> Option<B>
     ensures { result ≡ first (λ i. ballot_of (slice_get heads.now i)) (length heads.now) }
 {
+    // Kept: tried `find_map`: that it answers for the first of the heads did not follow from its clauses.
     for h in heads {
         let found = decided(h);
         if found.is_some() {

@@ -1,12 +1,9 @@
 use Rattle.std.proofs.Common.{length, sym, refl, ap, ◌∙◌}
 use Rattle.std.proofs.lemmas.Option.{slice_get_read}
 use Rattle.std.specs.List.{slice_get}
-use Rattle.sets.proofs.Searches.{left_start, left_some, left_more, left_all, none_is}
+use Rattle.sets.proofs.Searches.{left_some, left_more, left_all, none_is}
 use Rattle.votes.specs.Calls.{ballot_of}
 use Rattle.votes.proofs.tables.first_decided.Goals as goal
-
-pub loop-h-init : goal.loop-h-init
-loop-h-init g c = left_start _ (length c.args.heads.now)
 
 pub loop-h-preserved : goal.loop-h-preserved
 loop-h-preserved g c =

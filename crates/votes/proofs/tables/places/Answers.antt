@@ -1,5 +1,5 @@
 use Rattle.std.proofs.Common.{refl, arith, length}
-use Rattle.std.proofs.lemmas.Option.{slice_get_read, slice_get_within}
+use Rattle.std.proofs.lemmas.Option.{slice_get_read}
 use Rattle.votes.proofs.Places.{told_with, told_without}
 use Rattle.votes.proofs.tables.places.Goals as goal
 use Rattle.votes.proofs.tables.places.Goals.{then-test, else-test}
@@ -14,8 +14,3 @@ loop-i-preserved g c =
       | then-test w ↦ told_with heads _ i c.loop-i.set h c.test.result (omega arith) here c.test.ensures c.loop-i.invariant _ w.if-test.true w.set-is
       | else-test w ↦ told_without heads _ i c.loop-i.set h c.test.result (omega arith) here c.test.ensures c.loop-i.invariant _ w.if-test.false w.set-is
     ]
-
-pub returns-clause-each : goal.returns-clause-each
-returns-clause-each g c i h e =
-    let low = slice_get_within c.args.heads.now i h e in
-    c.loop-i.invariant.each i h (omega arith) e

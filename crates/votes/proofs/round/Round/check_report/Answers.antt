@@ -11,7 +11,7 @@ pub loop-other-preserved : goal.loop-other-preserved
 unfolding report_breach
 loop-other-preserved g c =
     left_more _ (stranger c.args.self.senders c.args.self.number c.reception-r.result.word c.check.head) 64 c.loop-other.other (omega arith)
-    (when_false _ _ (sym c.if-stranger.ensures)) c.loop-other.invariant
+    (when_false _ _ (sym c.if-only_in.ensures)) c.loop-other.invariant
 
 pub check-preserved : goal.check-preserved
 unfolding report_breach
@@ -43,14 +43,14 @@ returns-then-idle_noise g c =
     let at = here g.V.Method.scheme c.args.running self.senders self.number c.args.report.words.now c.args.report.alarms c.check.head c.reception-r.result c.reception-r.ensures in
     sym (left_found _ _ 64 c.check.head _ (omega arith) (at ∙ or_else_this _ _ _ (when_true _ _ (sym c.if-idle_noise.ensures))) c.check.invariant.1)
 
-pub returns-then-stranger : goal.returns-then-stranger
+pub returns-then-only_in : goal.returns-then-only_in
 unfolding report_breach
-returns-then-stranger g c =
+returns-then-only_in g c =
     let self = c.args.self in
     let at = here g.V.Method.scheme c.args.running self.senders self.number c.args.report.words.now c.args.report.alarms c.check.head c.reception-r.result c.reception-r.ensures in
     sym (left_found _ _ 64 c.check.head _ (omega arith)
     (at ∙ or_else_next _ _ (when_false _ _ (sym c.if-idle_noise.ensures))
-    ∙ or_else_this _ _ _ (left_found _ _ 64 c.loop-other.other _ (omega arith) (when_true _ _ (sym c.if-stranger.ensures)) c.loop-other.invariant))
+    ∙ or_else_this _ _ _ (left_found _ _ 64 c.loop-other.other _ (omega arith) (when_true _ _ (sym c.if-only_in.ensures)) c.loop-other.invariant))
     c.check.invariant.1)
 
 pub returns-then-is_err : goal.returns-then-is_err

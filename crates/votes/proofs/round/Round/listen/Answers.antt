@@ -1,6 +1,5 @@
 use Rattle.std.proofs.Common.{◌≡◌, ℕ, Bool, List, length, get_or, set, sym, ap, ◌∙◌, ap₂, arith, rules}
 use borrow.Author.Rules.{scaled_Fits}
-use Rattle.std.proofs.lemmas.Bool.{cond-true}
 use Rattle.heads.specs.declared.head.Ballots.{Ballots}
 use Rattle.heads.specs.declared.head.Head.{Head}
 use Rattle.heads.specs.Heard.{estimate_at, ballots_of}
@@ -10,9 +9,6 @@ use Rattle.votes.proofs.Rewrites.{rewrite_none, rewrite_more}
 use Rattle.votes.proofs.Rounds.{ballots_same, no_one, rewrite_estimate, note_at_estimate}
 use Rattle.votes.proofs.Leading.{led_same}
 use Rattle.votes.proofs.round.Round.listen.Goals as goal
-
-pub offset_bounds-table-i : goal.offset_bounds-table-i
-offset_bounds-table-i g c = scaled_Fits c.loop-i.i (length c.args.table.now) _ (omega arith) (search rules)
 
 pub offset_bounds-table-i-in-loop-i : goal.offset_bounds-table-i-in-loop-i
 offset_bounds-table-i-in-loop-i g c = scaled_Fits c.loop-i.i (length c.args.table.now) _ (omega arith) (search rules)
@@ -55,10 +51,3 @@ loop-i-preserved g c =
     let told : c.note.result ≡ f i h =
     c.note.ensures ∙ ap₂ (λ (t : Bool) (b : Ballots g.row.B.Denot). noted t b h.state h) c.has.ensures heard in
     (heard, ap (set c.loop-i.table i) told ∙ rewrite_more f old c.loop-i.table i h (omega arith) c.loop-i.invariant.1 c.index-table-i.is)
-
-pub returns : goal.returns
-returns g c =
-    let old = c.args.table.now in
-    let end : c.loop-i.i ≡ length c.args.report.words.now = omega arith in
-    c.loop-i.invariant.1 ∙ ap (λ (k : ℕ). rewrite (note_at g.B.Ballot.earlier old c.args.report.words.now c.args.report.stops) k old) end
-    ∙ sym (cond-true _ _ _ (sym c.if-not-of_ballots.ensures))

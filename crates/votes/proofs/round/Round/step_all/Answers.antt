@@ -1,4 +1,4 @@
-use Rattle.std.proofs.Common.{◌≡◌, ◌<◌, Bool, length, get_or, set, sym, ap, ◌∙◌, ap₂, arith, rules}
+use Rattle.std.proofs.Common.{◌≡◌, Bool, get_or, set, sym, ap, ◌∙◌, ap₂, arith}
 use Rattle.sets.specs.Sets.{bit}
 use Rattle.heads.specs.declared.head.Heard.{Heard}
 use Rattle.votes.specs.Reports.{reported}
@@ -6,12 +6,6 @@ use Rattle.votes.specs.Rounds.{stepped}
 use Rattle.votes.specs.Passes.{recalls, take_at}
 use Rattle.votes.proofs.Rewrites.{rewrite_none, rewrite_more}
 use Rattle.votes.proofs.round.Round.step_all.Goals as goal
-
-pub offset_bounds-table-i : goal.offset_bounds-table-i
-offset_bounds-table-i g c = let h : c.loop-i.i < length c.args.table.now = omega arith in search rules
-
-pub offset_bounds-table-i-in-loop-i : goal.offset_bounds-table-i-in-loop-i
-offset_bounds-table-i-in-loop-i g c = let h : c.loop-i.i < length c.args.table.now = omega arith in search rules
 
 pub loop-i-init : goal.loop-i-init
 loop-i-init g c = sym (rewrite_none _ _)

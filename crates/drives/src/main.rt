@@ -7,25 +7,25 @@ mod everyone;
 mod fields;
 mod one_of;
 mod plan;
+mod printer;
 
 use course::{Course, follow};
 use fields::{Fields, numbers_of};
 use listings::lines::write_refusal;
 use listings::text::{write_heads, write_rounds};
 use plan::Plans;
-use std::alloc::{AllocError, Global};
+use printer::Printer;
 use std::io;
-use std::io::{BufWriter, Read, Write};
+use std::io::{BufWriter, Read, Stdout, Write};
 
-// The listing of a course; there is no byte in the line of its refusal.
-fn text_of(heap: Global, course: &Course) -> Result<Vec<u8>, AllocError> {
-    let mut text = Vec::new(heap);
-    write_rounds(&mut text, course.rounds.as_slice())?;
+// Prints the listing of a course; there is no byte in the line of its refusal.
+fn print_course(out: &mut BufWriter<Stdout>, course: &Course) -> io::Result<()> {
+    let mut printer = Printer { out };
+    write_rounds(&mut printer, course.rounds.as_slice())?;
     match &course.ending {
-        Err(refusal) => write_refusal(&mut text, None, *refusal)?,
-        Ok(heads) => write_heads(&mut text, heads.as_slice())?,
+        Err(refusal) => write_refusal(&mut printer, None, *refusal),
+        Ok(heads) => write_heads(&mut printer, heads.as_slice()),
     }
-    Ok(text)
 }
 
 fn read_table(rt: &HostRuntime) -> anyhow::Result<Vec<u64>> {
@@ -42,7 +42,7 @@ fn drive_all(rt: &HostRuntime, numbers: &[u64]) -> anyhow::Result<()> {
     for (k, plan) in (1..u32::MAX).zip(plans) {
         writeln!(out, "V {k}")?;
         let course = follow(rt.alloc(), &plan?)?;
-        out.write_all(text_of(rt.alloc(), &course)?.as_slice())?;
+        print_course(&mut out, &course)?;
     }
     Ok(out.flush()?)
 }

@@ -11,7 +11,6 @@ use Rattle.heads.specs.declared.head.Ballots.{Ballots}
 use Rattle.heads.specs.declared.head.Head.{Head}
 use Rattle.heads.specs.declared.head.Heard.{Heard}
 use Rattle.heads.specs.declared.head.State.TheVariants.{Running, Decided, Stopped}
-use Rattle.heads.specs.Alarms.{due_by}
 use Rattle.heads.specs.Heard.{no_ballots}
 
 -- the votes; those on codes have the width W of a code, a ballot's code and the way back
@@ -42,7 +41,7 @@ of_ballots (split w code back) round = false
 
 -- ---- alarms: c senders, of which a head heard t
 
--- the class of the detector whose due alarms a vote asks for
+-- the class of detector that a vote asks for: the one whose alarms are due where the vote's are
 abbrev pub class_of : {B : Type 0} → Scheme B → Class
 class_of short = Majority
 class_of (bitwise w code) = Zero
@@ -51,7 +50,9 @@ class_of (split w code back) = Zero
 -- an alarm is due at half of the messages or fewer in a short vote, and at none of them in the others;
 -- never in a silent round
 abbrev pub due : {B : Type 0} → Scheme B → ℕ → ℕ → Bool
-due s c t = due_by (class_of s) c t
+due short c t = nat_lt 0 c && nat_le (2 * t) c
+due (bitwise w code) c t = nat_lt 0 c && t == 0
+due (split w code back) c t = nat_lt 0 c && t == 0
 
 -- an alarm is false where every message was heard
 abbrev pub false_alarm : ℕ → ℕ → Bool

@@ -6,9 +6,12 @@ use std::alloc::AllocError;
 use std::io;
 use std::io::{Read, Write};
 
-// The bytes of the longest recording that can be played whole: 64 heads over 10,000 rounds. Room for as many is asked
-// for at once, and only what is read is ever touched.
-const ROOM: usize = 133 + 538 * 10_000;
+// The bytes of the longest recording that can be played whole: 64 heads over 10,000 rounds.
+const LONGEST: usize = 133 + 538 * 10_000;
+
+// Room for that recording is asked for at once, with a byte to spare: in a vector that is just full, `read_to_end` asks
+// for more before it sees the end. Little more than what is read is ever touched.
+const ROOM: usize = LONGEST + 1;
 
 // The whole of standard input.
 fn read_recording(rt: &HostRuntime) -> io::Result<Vec<u8>> {

@@ -16,6 +16,7 @@ use Rattle.heads.specs.declared.head.State.{State}
 use Rattle.heads.specs.declared.head.State.TheVariants.{Running, Decided, Stopped}
 use Rattle.heads.specs.Alarms.{due_by}
 use Rattle.heads.specs.Rules.{Scheme, of_ballots, class_of, due, false_alarm, strict, says, keeps, stopped}
+use Rattle.heads.specs.Rules.Scheme.{short, bitwise, split}
 use Rattle.heads.specs.Heard.{estimate_at, no_ballots, ballots_below, ballots_of, From, IsLeast}
 use Rattle.heads.proofs.Walks.{Right, right}
 use Rattle.votes.specs.Tables.{same_state, head_in, stands, in_state, running, lowest_idle, rewrite_from}
@@ -142,7 +143,9 @@ module _ {B : Type 0} {n : ℕ} {hs : List (Head B)} {st : Heads B} (few : n ≤
 
 -- an alarm is due in a vote where it is due by the class of detector that the vote asks for
 pub due_is : {B : Type 0} (s : Scheme B) (c t : ℕ) → due s c t ≡ due_by (class_of s) c t
-due_is s c t = refl
+due_is short c t = refl
+due_is (bitwise w code) c t = refl
+due_is (split w code back) c t = refl
 
 abbrev pub events : {B : Type 0} → (B → B → Bool) → Scheme B → ℕ → List (Head B) → ℕ → Report → Events B
 events earlier s r hs turns q = record {
@@ -399,7 +402,8 @@ module _ {B : Type 0} (earlier : B → B → Bool) (order : Total earlier) (s : 
     senders_heard = heard_sends;
     alarms_due = λ i u t. let l : i < 64 = (let m = runs_below few v i u in omega arith) in
         on_in q.alarms i l ((passed i l).alarmed (subst T (sym (run_bit few v i)) u)
-        (subst (λ (c : ℕ). T (due_by (class_of s) c (heard_of sending (word i)))) (sym total_is) (subst (λ (h : ℕ). T (due_by (class_of s) (total s r st e) h)) (sym (heard_is i l)) t)));
+        (subst T (sym (due_is s (sent sending) (heard_of sending (word i))))
+        (subst (λ (c : ℕ). T (due_by (class_of s) c (heard_of sending (word i)))) (sym total_is) (subst (λ (h : ℕ). T (due_by (class_of s) (total s r st e) h)) (sym (heard_is i l)) t))));
     none_false = λ strictly i t f. let l = on_below q.alarms i t in
         (passed i l).no_false strictly (on_out q.alarms i t) (heard_is i l ∙ f ∙ sym total_is);
     none_heard = none_of;

@@ -1,5 +1,5 @@
 // The report of a round, checked head by head.
-ghost use Rattle.std.specs.Prelude.{◌≡◌, ℕ, ◌<◌, Bool, true, false, not, ◌&&◌, slice_index};
+ghost use Rattle.std.specs.Prelude.{◌≡◌, ℕ, ◌<◌, Bool, true, false, not, ◌&&◌, ◌==◌, slice_index};
 ghost use Rattle.sets.specs.Sets.{bit};
 ghost use Rattle.heads.specs.Rules.{due, strict, false_alarm};
 ghost use Rattle.votes.specs.Rounds.{sent, heard_of, idle_noise, late_breach, report_breach};
@@ -70,6 +70,14 @@ fn reception(running: u64, report: Report<'_>, head: usize) -> Reception
     }
 }
 
+// Whether a head neither runs nor hears anything, and is none of the heads marked. Where these are those that send or are
+// alarmed, it breaks no rule; most numbers name no head, and are passed over by this.
+fn is_out(marked: u64, r: Reception) -> bool
+    ensures { result ≡ (not r.runs && (r.word == 0) && not (bit marked r.head)) }
+{
+    !r.runs && r.word == 0 && !sets::has(marked, r.head)
+}
+
 impl<V: Copy> Round<V> {
     // Checks a head whose word has senders alone; c heads sent.
     fn check_late<B>(self, c: u32, r: Reception) -> Result<(), VoteFault>
@@ -100,10 +108,14 @@ impl<V: Copy> Round<V> {
     {
         let (round, senders) = (self.number, self.senders);
         let c = sets::size(senders);
+        let marked = sets::joined(senders, report.alarms);
         let mut found = Ok(());
         // Kept: a rule of the project: nested loops over hearer and sender, left by a label at the first breach.
         'check: for head in 0..64 {
             let r = reception(running, report, head);
+            if is_out(marked, r) {
+                continue;
+            }
             if idle_noise(r) {
                 found = Err(VoteFault::IdleNoise { round, head });
                 break 'check;

@@ -1,9 +1,12 @@
-use Rattle.std.proofs.Common.{◌≡◌, None, sym, ap, ◌∙◌, arith}
+use Rattle.std.proofs.Common.{◌≡◌, ℕ, ◌||◌, None, sym, ap, ◌∙◌, arith}
+use Rattle.std.proofs.lemmas.Bool.{and_parts, eqb-true}
+use Rattle.sets.specs.Sets.{bit}
+use Rattle.sets.proofs.Words.{bit_word}
 use Rattle.sets.specs.Search.{first}
 use Rattle.sets.proofs.Searches.{left_more, left_found, left_all, when_true, when_false, or_else_next, or_else_this}
-use Rattle.votes.specs.Rounds.{late_breach, stranger, report_breach}
+use Rattle.votes.specs.Rounds.{late_breach, stranger, breach_of, report_breach}
 use Rattle.votes.specs.Calls.{breach_in}
-use Rattle.votes.proofs.Breaches.{here, no_stranger, left_fault, ok_is}
+use Rattle.votes.proofs.Breaches.{here, no_stranger, left_fault, ok_is, not_is, out}
 use Rattle.votes.proofs.round.Round.check_report.Goals as goal
 use Rattle.votes.proofs.round.Round.check_report.Goals.{then-has_stranger+else-loop-other-test, else-has_stranger}
 
@@ -12,6 +15,27 @@ unfolding report_breach
 loop-other-preserved g c =
     left_more _ (stranger c.args.self.senders c.args.self.number c.reception-r.result.word c.check.head) 64 c.loop-other.other (omega arith)
     (when_false _ _ (sym c.if-only_in.ensures)) c.loop-other.invariant
+
+pub check-preserved-then-is_out : goal.check-preserved-then-is_out
+unfolding report_breach
+check-preserved-then-is_out g c =
+    let self = c.args.self in
+    let s = g.V.Method.scheme in
+    let report = c.args.report in
+    let i = c.check.head in
+    let same = c.reception-r.ensures in
+    let both = and_parts _ _ (sym c.is_out.ensures ∙ c.if-is_out.true) in
+    let idle = and_parts _ _ both.0 in
+    let blank = sym (ap (λ x. x.word) same) ∙ eqb-true _ 0 idle.1 in
+    let runs = sym (ap (λ x. x.runs) same) ∙ not_is _ idle.0 in
+    let none = sym (bit_word 64 (λ j. bit self.senders j || bit report.alarms j) i (omega arith))
+    ∙ ap (λ w. bit w i) (sym c.joined-marked.ensures) ∙ ap (bit c.joined-marked.result) (sym (ap (λ x. x.head) same))
+    ∙ not_is _ both.1 in (
+      c.check.invariant.0,
+      left_more _ _ 64 i (omega arith)
+          (ap (λ (w : ℕ). breach_of s self.senders self.number (bit c.args.running i) w (bit report.alarms i) i) blank ∙ out s self.senders self.number _ _ i runs none)
+          c.check.invariant.1,
+    )
 
 pub check-preserved : goal.check-preserved
 unfolding report_breach

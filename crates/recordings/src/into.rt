@@ -116,17 +116,18 @@ fn play_file<R: Sink<Figures>, H: Sink<Outcome, Full = R::Full>>(
 ) -> Result<Result<(), FileFault>, R::Full>
     ensures { PlayedTo R.takes R.stops H.takes H.stops (played_kind file.entry.kind file.entry.vote file.entry.heads file.entry.bytes.now) rounds.old rounds.new heads.old heads.new result }
 {
-    // Kept: a table for each kind. That 64 records of any B fit in memory isn't known where B is a parameter.
+    // Kept: a table for each kind, and a short one for few heads. That 64 records of any B fit in memory isn't known where B
+    // is a parameter, and to fill as many takes longer than to play a short recording.
     let n = file.heads;
     match file.kind {
-        BallotKind::Recipe => {
-            let mut table = [vacant::<Recipe>(); 64];
-            play_kind(file, &mut table[0..n], rounds, heads)
+        BallotKind::Recipe if n <= 8 => {
+            play_kind(file, &mut [vacant::<Recipe>(); 8][0..n], rounds, heads)
         }
-        BallotKind::Ticket => {
-            let mut table = [vacant::<Ticket>(); 64];
-            play_kind(file, &mut table[0..n], rounds, heads)
+        BallotKind::Ticket if n <= 8 => {
+            play_kind(file, &mut [vacant::<Ticket>(); 8][0..n], rounds, heads)
         }
+        BallotKind::Recipe => play_kind(file, &mut [vacant::<Recipe>(); 64][0..n], rounds, heads),
+        BallotKind::Ticket => play_kind(file, &mut [vacant::<Ticket>(); 64][0..n], rounds, heads),
     }
 }
 
